@@ -1,0 +1,4 @@
+-- The definitions that the crates above share.
+pub mod Limits
+pub mod Sums
+pub mod Checks

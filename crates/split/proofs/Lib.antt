@@ -1,0 +1,2 @@
+-- The laws of the split, which callers cite.
+pub mod Laws

@@ -1,0 +1,34 @@
+// A sum shared over weights in rising order, each share rounded down: document 01, "The split".
+ghost use mathlib.Core.Path.{_≡_};
+ghost use Prim.Native.Nat.{ℕ, _≤_};
+ghost use Rattle.lists.specs.Limits.{amountLimit, allocationLimit};
+ghost use Rattle.split.specs.Split.{Splits, shareOf, splitOf};
+
+// One weight's share of what is left of the sum. A weight of 0 takes nothing, and costs no division.
+fn share(left: u64, weight: u64, rest: u64) -> u64
+    requires { ⌜ (weight ≤ amountLimit) × (left ≤ allocationLimit) × (weight ≤ rest) ⌝ }
+    ensures { λ r. ⌜ r ≡ shareOf left weight rest ⌝ }
+{
+    if weight == 0 {
+        return 0;
+    }
+    weight * left / rest
+}
+
+// `sum` shared over `weights`, whose total is `whole`: callers have it, so it is not added up again.
+pub fn split(sum: u64, whole: u64, weights: &[u64], shares: &mut [u64])
+    requires { ⌜ Splits sum whole (now weights) (now shares) ⌝ }
+    ensures { λ _. ⌜ now (shares .exit) ≡ splitOf sum (now (weights .entry)) ⌝ }
+{
+    let mut left = sum;
+    let mut rest = whole;
+    let mut i = 0;
+    while i < weights.len() {
+        let weight = weights[i];
+        let part = share(left, weight, rest);
+        shares[i] = part;
+        left -= part;
+        rest -= weight;
+        i += 1;
+    }
+}

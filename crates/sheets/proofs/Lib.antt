@@ -1,0 +1,3 @@
+-- The laws of records and sheets, which callers cite.
+pub mod Laws
+pub mod Accepted

@@ -1,0 +1,5 @@
+-- The definitions that the contracts of `sheets` cite.
+pub mod Bytes
+pub mod Members
+pub mod Stress
+pub mod Sheet

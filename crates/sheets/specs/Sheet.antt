@@ -1,0 +1,48 @@
+-- A sheet as a whole: its size, and the first of its records that is refused.
+use Prim.Native.Nat.{ℕ, zero, suc, _+_, _*_, _/_, _%_}
+use mathlib.Core.Bool.{Bool, _||_}
+use mathlib.Core.List.{List}
+use lib.Dec.{eqb, ltb}
+use lib.ListN.{length}
+use Rattle.lists.specs.Checks.{check}
+use Rattle.sheets.specs.Bytes.{recordAt, nonzero}
+use Rattle.sheets.specs.Members.{memberAt, entryOf, numberOf}
+use Rattle.sheets.specs.Stress.{beforeAll, passed, stressOf, stressNumber}
+use Rattle.sheets.specs.declared.Before.{Before}
+use Rattle.sheets.specs.declared.Refusal.{Refusal}
+
+-- "A refusal carries its number and, for 4 to 8, the record's place counted from 1 (0 for the others)"; 0 and 0 say that nothing is refused
+abbrev pub refusal : ℕ → ℕ → Refusal
+refusal number position = record { number = number; position = position }
+
+abbrev pub accepted : Refusal
+accepted = refusal 0 0
+
+-- 1. "A sheet is empty, overlong or not whole records."
+unfoldable pub missized : ℕ → List ℕ → Bool
+missized most sheet = eqb (length sheet) 0 || ltb (most * 16) (length sheet) || nonzero (length sheet % 16)
+
+abbrev pub recordCount : List ℕ → ℕ
+recordCount sheet = length sheet / 16
+
+-- 4 to 7, record by record: the first that is refused of the n records from record i on, `last` being the member before them
+unfoldable pub memberRefusalFrom : ℕ → ℕ → List ℕ → ℕ → ℕ → Refusal
+memberRefusalFrom floor zero sheet i last = accepted
+memberRefusalFrom floor (suc n) sheet i last =
+    check (nonzero (numberOf (entryOf floor last (recordAt sheet i))))
+    (refusal (numberOf (entryOf floor last (recordAt sheet i))) (i + 1))
+    (memberRefusalFrom floor n sheet (i + 1) (memberAt (recordAt sheet i)))
+
+unfoldable pub memberRefusal : ℕ → List ℕ → Refusal
+memberRefusal floor sheet = memberRefusalFrom floor (recordCount sheet) sheet 0 0
+
+-- 4 to 8 of a stress sheet, likewise
+unfoldable pub stressRefusalFrom : ℕ → List ℕ → ℕ → Before → Refusal
+stressRefusalFrom zero sheet i before = accepted
+stressRefusalFrom (suc n) sheet i before =
+    check (nonzero (stressNumber (stressOf before (recordAt sheet i))))
+    (refusal (stressNumber (stressOf before (recordAt sheet i))) (i + 1))
+    (stressRefusalFrom n sheet (i + 1) (passed before (recordAt sheet i)))
+
+unfoldable pub stressRefusal : List ℕ → Refusal
+stressRefusal sheet = stressRefusalFrom (recordCount sheet) sheet 0 beforeAll

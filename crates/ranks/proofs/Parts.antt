@@ -1,0 +1,244 @@
+-- The laws of the marginal rank, which the proofs of the parts of `charge_by_rank` cite.
+use Prim.Native.Nat.{ℕ, zero, suc, _+_, _-_, _*_, _≤_, _<_, zero-le}
+use mathlib.Core.Path.{_≡_, refl, ap, sym, _∙_}
+use mathlib.Core.Bool.{Bool, true, false, cond}
+use mathlib.Core.List.{List, [], _∷_, _++_, map}
+use mathlib.Core.Logic.{⊎-elim}
+use native.Mathlib.Nat.{eq-or-lt-of-le, sub-zero}
+use native.Mathlib.Numerals.{add-one, sub-one}
+use native.Mathlib.Omega.{arith}
+use lib.Dec.{eqb, leb, ltb}
+use lib.ListN.{length, getD, take, drop, set, replicate, drop-of-length-le, length-replicate, length-map}
+use lib.Seq.{drop-cons, getD-set-same, getD-set-other, drop-set-lt}
+use borrow.Author.Tests.{eq-eqb, ne-eqb, eqb-true, eqb-false, lt-ltb, le-ltb, leb-true, leb-false}
+use Rattle.lists.specs.Limits.{memberLimit, rankLimit, amountLimit, allocationLimit}
+use Rattle.lists.specs.Sums.{total, plus, keep}
+use Rattle.lists.proofs.Fill.{fill-turn, fill-done}
+use Rattle.lists.proofs.Sums.{total-zeros, getD-zeros, total-plus, plus-assoc, plus-none, none-plus, length-keep, keep-le, cond-le, keep-map-step}
+use Rattle.split.specs.Split.{Splits, splitOf}
+use Rattle.split.proofs.Laws.{total-within, total-of-none, split-whole}
+use Rattle.ranks.specs.Ranks.{atRank, rankGives, chargesFrom, chargesOf}
+use Rattle.ranks.specs.Parts.{Weighed, Totals, Next, Marginal, rankOf, aboveRank}
+use Rattle.ranks.proofs.Laws.{by-order, length-at, length-shares, length-from, total-from}
+
+pub matched : (ws rs : List ℕ) → Weighed ws rs → length rs ≡ length ws
+matched ws rs w = w .as-many ∙ sym (w .long)
+
+-- the totals by rank ---------------------------------------------------------------
+
+-- a byte above the limit is at none of the ranks
+rank-test : (q r : ℕ) → 0 < q → q ≤ rankLimit → eqb q r ≡ eqb q (rankOf r)
+rank-test q r p h = go (leb r rankLimit) refl
+  where
+    go : (b : Bool) → leb r rankLimit ≡ b → eqb q r ≡ eqb q (cond b r 0)
+    go true e = refl
+    go false e =
+        let n : rankLimit < r = leb-false r rankLimit e in
+        ne-eqb q r (λ x. omega arith) ∙ sym (ne-eqb q 0 (λ x. omega arith))
+
+pub rank-of-le : (r : ℕ) → rankOf r ≤ rankLimit
+rank-of-le r = go (leb r rankLimit) refl
+  where
+    go : (b : Bool) → leb r rankLimit ≡ b → cond b r 0 ≤ rankLimit
+    go true e = leb-true r rankLimit e
+    go false e = zero-le
+
+-- a number of a table raised
+raised : (ts : List ℕ) (p w q : ℕ) → p < length ts → getD (set ts p (getD ts p 0 + w)) q 0 ≡ getD ts q 0 + cond (eqb q p) w 0
+raised ts p w q h = go (eqb q p) refl
+  where
+    go : (b : Bool) → eqb q p ≡ b → getD (set ts p (getD ts p 0 + w)) q 0 ≡ getD ts q 0 + cond b w 0
+    go true e =
+        let s : q ≡ p = eqb-true q p e in
+        rw s (getD-set-same ts p (getD ts p 0 + w) 0 h)
+    go false e = getD-set-other ts p q (getD ts p 0 + w) 0 (eqb-false q p e) ∙ omega arith
+
+-- the table so far, and the weights that are left at each rank
+abbrev pub Adding : List ℕ → List ℕ → List ℕ → ℕ → Type 0
+Adding ts ws rs i =
+    ((q : ℕ) → 0 < q → q ≤ rankLimit → getD ts q 0 + total (atRank q (drop i ws) (drop i rs)) ≡ total (atRank q ws rs))
+    × ((q : ℕ) → getD ts q 0 ≤ amountLimit * i)
+
+pub adding-turn : (ts ws rs : List ℕ) (i p : ℕ) → i < length ws → i < length rs → p < length ts → p ≡ rankOf (getD rs i 0) → getD ws i 0 ≤ amountLimit
+    → Adding ts ws rs i → Adding (set ts p (getD ts p 0 + getD ws i 0)) ws rs (i + 1)
+adding-turn ts ws rs i p hw hr ht e b (t, m) = (turn, bound)
+  where
+    turn : (q : ℕ) → 0 < q → q ≤ rankLimit → getD (set ts p (getD ts p 0 + getD ws i 0)) q 0 + total (atRank q (drop (i + 1) ws) (drop (i + 1) rs)) ≡ total (atRank q ws rs)
+    turn q a h =
+        let same : eqb q (getD rs i 0) ≡ eqb q p = rank-test q (getD rs i 0) a h ∙ ap (eqb q) (sym e) in
+        omega (
+          arith,
+          raised ts p (getD ws i 0) q ht,
+          ap (λ (x : Bool). cond x (getD ws i 0) 0) same,
+          ap total (keep-map-step (eqb q) rs ws i (cond (eqb q (getD rs i 0)) (getD ws i 0) 0) hr hw refl),
+          t q a h,
+        )
+
+    bound : (q : ℕ) → getD (set ts p (getD ts p 0 + getD ws i 0)) q 0 ≤ amountLimit * (i + 1)
+    bound q = omega (arith, raised ts p (getD ws i 0) q ht, cond-le (eqb q p) (getD ws i 0), m q)
+
+pub adding-start : (n : ℕ) (ws rs : List ℕ) → Adding (replicate n 0) ws rs 0
+adding-start n ws rs = ((λ q a h. omega (arith, getD-zeros n q)), (λ q. omega (arith, getD-zeros n q)))
+
+pub adding-done : (ts ws rs : List ℕ) (i : ℕ) → length rs ≤ i → Adding ts ws rs i → Totals ts ws rs
+adding-done ts ws rs i h (t, m) =
+    let n : drop i rs ≡ [] = drop-of-length-le rs h in
+    record { each = λ q a b. omega (arith, t q a b, ap (λ (xs : List ℕ). total (atRank q (drop i ws) xs)) n) }
+
+-- the next rank ------------------------------------------------------------------------
+
+pub passed-more : (ts : List ℕ) (at from : ℕ) → getD ts at 0 ≤ 0 → ((p : ℕ) → at < p → p ≤ from → getD ts p 0 ≡ 0)
+    → (p : ℕ) → at - 1 < p → p ≤ from → getD ts p 0 ≡ 0
+passed-more ts at from z h p a b =
+    ⊎-elim
+    (λ e. ap (λ (k : ℕ). getD ts k 0) (sym e) ∙ omega arith)
+    (λ l. h p l b)
+    (eq-or-lt-of-le (omega arith))
+
+-- the marginal rank's split ----------------------------------------------------------
+
+pub shares-asked : (rank part whole : ℕ) (ws rs own shares : List ℕ) → Weighed ws rs → part ≤ allocationLimit → whole ≡ total (atRank rank ws rs)
+    → own ≡ atRank rank ws rs → length shares ≡ memberLimit → Splits part whole own shares
+shares-asked rank part whole ws rs own shares w p t e n =
+    let l : length (atRank rank ws rs) ≡ length ws = length-at rank ws rs (matched ws rs w) in
+    rw e
+    record {
+      sum-fits = p;
+      whole-is = t;
+      weights-fit = λ k. omega (arith, keep-le (map (eqb rank) rs) ws k, w .weights-fit k);
+      few = omega (arith, w .long);
+      as-many = omega (arith, w .long);
+    }
+
+-- what is charged whole ---------------------------------------------------------------
+
+-- the weights above a rank are those above it and those at it, one rank further down
+above-place : (q r w : ℕ) → suc q ≤ rankLimit → cond (ltb (suc q) (rankOf r)) w 0 + cond (eqb (suc q) r) w 0 ≡ cond (ltb q (rankOf r)) w 0
+above-place q r w h = simp (rank-test (suc q) r (omega arith) h) (go (rankOf r))
+  where
+    go : (p : ℕ) → cond (ltb (suc q) p) w 0 + cond (eqb (suc q) p) w 0 ≡ cond (ltb q p) w 0
+    go p =
+        by-order
+        (suc q)
+        p
+        (λ l. simp (lt-ltb (suc q) p l, ne-eqb (suc q) p (λ e. omega arith), lt-ltb q p (omega arith)) (omega arith))
+        (λ e. simp (le-ltb (suc q) p (omega arith), eq-eqb (suc q) p e, lt-ltb q p (omega arith)) (omega arith))
+        (λ g. simp (le-ltb (suc q) p (omega arith), ne-eqb (suc q) p (λ e. omega arith), le-ltb q p (omega arith)))
+
+above-down : (q : ℕ) (ws rs : List ℕ) → suc q ≤ rankLimit → plus (aboveRank (suc q) ws rs) (atRank (suc q) ws rs) ≡ aboveRank q ws rs
+above-down q ws [] h = refl
+above-down q [] (r ∷ rs) h = refl
+above-down q (w ∷ ws) (r ∷ rs) h = rw (above-place q r w h, above-down q ws rs h)
+
+above-none : (ws rs : List ℕ) → total (aboveRank rankLimit ws rs) ≡ 0
+above-none ws [] = refl
+above-none [] (r ∷ rs) = refl
+above-none (w ∷ ws) (r ∷ rs) = rw (le-ltb rankLimit (rankOf r) (rank-of-le r)) (omega (arith, above-none ws rs))
+
+length-above : (q : ℕ) (ws rs : List ℕ) → length rs ≡ length ws → length (aboveRank q ws rs) ≡ length ws
+length-above q ws rs e = length-keep (map (λ (r : ℕ). ltb q (rankOf r)) rs) ws (length-map rs (λ (r : ℕ). ltb q (rankOf r)) ∙ e)
+
+-- numbers added to a list in place, one a turn
+pub add-turn : (f : ℕ → Bool) (rs ws out r : List ℕ) (i x s : ℕ) → i < length rs → i < length ws → i < length out → x ≡ cond (f (getD rs i 0)) (getD ws i 0) 0
+    → s ≡ getD out i 0 + x → take i out ++ plus (keep (map f (drop i rs)) (drop i ws)) (drop i out) ≡ r
+    → take (i + 1) (set out i s) ++ plus (keep (map f (drop (i + 1) rs)) (drop (i + 1) ws)) (drop (i + 1) (set out i s)) ≡ r
+add-turn f rs ws out r i x s hr hw ho e v h =
+    let n : s ≡ x + getD out i 0 = omega arith in
+    rw (drop-set-lt (i + 1) out i s (omega arith))
+    (fill-turn out r _ _ i s ho (rw (keep-map-step f rs ws i x hr hw e, n, add-one, drop-cons out i 0)) h)
+
+pub add-done : (f : ℕ → Bool) (rs ws out r : List ℕ) (i : ℕ) → length rs ≤ i → length out ≤ i
+    → take i out ++ plus (keep (map f (drop i rs)) (drop i ws)) (drop i out) ≡ r → out ≡ r
+add-done f rs ws out r i hr ho h = fill-done out r _ i ho (rw (drop-of-length-le rs hr, drop-of-length-le out ho)) h
+
+-- from the highest rank down to the marginal one ----------------------------------------
+
+-- The ranks above `rank` are charged whole, and `left` is left for it and those below.
+pub record Going (sum : ℕ) (ws rs : List ℕ) (rank left : ℕ) : Type 0 where
+  pub charges : plus (aboveRank rank ws rs) (chargesFrom rank left ws rs) ≡ chargesOf sum ws rs
+  pub given : total (aboveRank rank ws rs) + left ≡ sum
+
+module _ (ws rs : List ℕ) where
+  -- a rank with enough left for it is charged whole
+  from-enough : (q l t : ℕ) → t ≡ total (atRank (suc q) ws rs) → t ≤ l → chargesFrom (suc q) l ws rs ≡ plus (atRank (suc q) ws rs) (chargesFrom q (l - t) ws rs)
+  unfolding chargesFrom
+  from-enough q l t e h =
+      let g : rankGives (suc q) l ws rs ≡ total (atRank (suc q) ws rs) = omega arith in
+      rw (g, split-whole (atRank (suc q) ws rs), e)
+
+  -- with no more left than a rank has, the rank takes all
+  from-part : (q l : ℕ) → length rs ≡ length ws → l ≤ total (atRank (suc q) ws rs) → chargesFrom (suc q) l ws rs ≡ splitOf l (atRank (suc q) ws rs)
+  unfolding chargesFrom
+  from-part q l e h =
+      let g : rankGives (suc q) l ws rs ≡ l = omega arith in
+      let z : l - l ≡ 0 = omega arith in
+      rw (g, z)
+      (none-plus
+      (splitOf l (atRank (suc q) ws rs))
+      (chargesFrom q 0 ws rs)
+      (omega (arith, length-shares ws rs (suc q) l e, length-from ws rs q 0 e))
+      (omega (arith, total-from ws rs q 0)))
+
+module _ (sum : ℕ) (ws rs : List ℕ) where
+  going-down : (q l t : ℕ) → suc q ≤ rankLimit → t ≡ total (atRank (suc q) ws rs) → t ≤ l → Going sum ws rs (suc q) l → Going sum ws rs q (l - t)
+  going-down q l t h e m g =
+      record {
+        charges = cc (above-down q ws rs h, plus-assoc (aboveRank (suc q) ws rs) (atRank (suc q) ws rs) (chargesFrom q (l - t) ws rs), from-enough ws rs q l t e m, g .charges);
+        given = omega (arith, ap total (above-down q ws rs h), total-plus (aboveRank (suc q) ws rs) (atRank (suc q) ws rs), g .given);
+      }
+
+  pub going-turn : (q l t : ℕ) → 0 < q → q ≤ rankLimit → t ≡ total (atRank q ws rs) → t ≤ l → Going sum ws rs q l → Going sum ws rs (q - 1) (l - t)
+  going-turn zero l t p h e m g = absurd (omega arith)
+  going-turn (suc q) l t p h e m g = rw sub-one (going-down q l t h e m g)
+
+  -- ranks that have nothing are passed
+  going-skip : (q n l : ℕ) → q ≤ rankLimit → n ≤ q → ((p : ℕ) → n < p → p ≤ q → total (atRank p ws rs) ≡ 0) → Going sum ws rs q l → Going sum ws rs n l
+  going-skip zero n l h a z g =
+      let e : n ≡ 0 = omega arith in
+      rw e g
+  going-skip (suc q) n l h a z g =
+      ⊎-elim
+      (λ e. rw e g)
+      (λ b. going-skip q n l (omega arith) (omega arith) (λ p x y. z p x (omega arith)) (rw sub-zero at (going-down q l 0 h (sym (z (suc q) b (omega arith))) zero-le g)))
+      (eq-or-lt-of-le a)
+
+  pub going-next : (ts : List ℕ) (q n l : ℕ) → q ≤ rankLimit → Totals ts ws rs → Next ts q n → Going sum ws rs q l → Going sum ws rs n l
+  going-next ts q n l h t x g =
+      going-skip q n l h (x .at-most) (λ p a b. sym (t .each p (omega arith) (omega arith)) ∙ x .passed p a b) g
+
+  module _ (same : length rs ≡ length ws) where
+    pub going-start : Going sum ws rs rankLimit sum
+    unfolding chargesOf
+    going-start =
+        record {
+          charges = plus-none (aboveRank rankLimit ws rs) (chargesFrom rankLimit sum ws rs) (omega (arith, length-above rankLimit ws rs same, length-from ws rs rankLimit sum same)) (above-none ws rs);
+          given = omega (arith, above-none ws rs);
+        }
+
+    pub going-part : (q l t : ℕ) → 0 < q → t ≡ total (atRank q ws rs) → l < t → Going sum ws rs q l → Marginal sum ws rs q l t sum
+    going-part zero l t p e h g = absurd (omega arith)
+    going-part (suc q) l t p e h g =
+        let c : plus (aboveRank (suc q) ws rs) (splitOf l (atRank (suc q) ws rs)) ≡ chargesOf sum ws rs = cc (from-part ws rs q l same (omega arith), g .charges) in
+        record {
+          charges = c;
+          charged-is = omega (arith, ap total c, total-plus (aboveRank (suc q) ws rs) (splitOf l (atRank (suc q) ws rs)), total-within l (atRank (suc q) ws rs) (omega arith), g .given);
+          whole-is = λ x. e;
+          part-fits = omega (arith, g .given);
+        }
+
+    pub going-done : (q l : ℕ) → q ≤ 0 → Going sum ws rs q l → Marginal sum ws rs 0 0 0 (sum - l)
+    unfolding chargesFrom
+    going-done zero l z g =
+        let a : List ℕ = aboveRank 0 ws rs in
+        let s : List ℕ = splitOf 0 (atRank 0 ws rs) in
+        let n : length a ≡ length ws = length-above 0 ws rs same in
+        let p : plus a s ≡ a = none-plus a s (omega (arith, length-shares ws rs 0 0 same)) (total-of-none (atRank 0 ws rs)) in
+        let r : plus a (replicate (length ws) 0) ≡ a = none-plus a (replicate (length ws) 0) (omega (arith, length-replicate {A = ℕ} (length ws) 0)) (total-zeros (length ws)) in
+        let c : a ≡ chargesOf sum ws rs = sym r ∙ g .charges in
+        record {
+          charges = p ∙ c;
+          charged-is = omega (arith, ap total c, g .given);
+          whole-is = λ x. omega arith;
+          part-fits = zero-le;
+        }
+    going-done (suc q) l z g = absurd (omega arith)

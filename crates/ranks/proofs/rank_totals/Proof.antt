@@ -1,0 +1,93 @@
+-- `ranks::rank_totals` meets its contract. The loop's invariant: each rank's total so far, with the weights of that rank that are left, is
+-- its total.
+use Prim.Native.Nat.{_-_, _≤_, zero-le}
+use mathlib.Core.Path.{_≡_, refl}
+use native.Mathlib.Omega.{arith}
+use lib.ListN.{length, getD, length-set}
+use borrow.Author.Needs.{needs}
+use Rattle.lists.specs.Limits.{rankLimit}
+use Rattle.ranks.proofs.Parts.{Adding, adding-start, adding-turn, adding-done, rank-of-le}
+use Rattle.ranks.proofs.rank_totals.Statement.{statement}
+use Rattle.ranks.proofs.rank_totals.Tie as tie
+
+abbrev Inv-loop : tie.InvT-loop
+Inv-loop weights ranks totals₀ i₀ totals i = (i ≤ 64) × (length totals ≡ 65) × Adding totals weights ranks i
+
+abbrev μ-loop : tie.MeasureT-loop
+μ-loop weights ranks totals₀ i₀ totals i = 64 - i
+
+-- the rank that was read is a place of the table
+rank : (c : tie.After-totals Inv-loop μ-loop) → c .before .rank-of .result ≤ rankLimit
+rank c = omega (arith, c .before .rank-of .ensures, rank-of-le (getD (c .before .before .before .before .before .before .args .ranks .now) (c .before .before .before .before .loop .i) 0))
+
+loop-holds : tie.Need-loop-holds Inv-loop μ-loop
+loop-holds c =
+    let a = c .before .args in
+    (zero-le, refl, adding-start 65 (a .weights .now) (a .ranks .now))
+
+shared-slice-read-rank-of : tie.Need-shared-slice-read-rank-of Inv-loop μ-loop
+shared-slice-read-rank-of c = search needs
+
+rank-of-requires : tie.Need-rank-of-requires Inv-loop μ-loop
+rank-of-requires c κs = search needs
+
+mul-totals : tie.Need-mul-totals Inv-loop μ-loop
+mul-totals c = search needs
+
+element-copy-out-totals : tie.Need-element-copy-out-totals Inv-loop μ-loop
+element-copy-out-totals c = search needs
+
+mul-totals-2 : tie.Need-mul-totals-2 Inv-loop μ-loop
+mul-totals-2 c = omega (arith, rank c)
+
+array-read-totals : tie.Need-array-read-totals Inv-loop μ-loop
+array-read-totals c = omega (arith, rank c)
+
+add-totals : tie.Need-add-totals Inv-loop μ-loop
+add-totals c =
+    let l = c .before .before .before .before in
+    omega (arith, l .loop .inv .2 .1 (c .before .rank-of .result), l .before .before .pre .weights-fit (l .loop .i))
+
+array-write-totals : tie.Need-array-write-totals Inv-loop μ-loop
+array-write-totals c = omega (arith, rank c)
+
+add-i : tie.Need-add-i Inv-loop μ-loop
+add-i c = search needs
+
+loop-less : tie.Need-loop-less Inv-loop μ-loop
+loop-less c = search needs
+
+loop-again : tie.Need-loop-again Inv-loop μ-loop
+loop-again c =
+    let l = c .before .before .before .before in
+    let a = l .before .before .args in (
+      omega arith,
+      simp length-set (l .loop .inv .1),
+      adding-turn (l .loop .totals) (a .weights .now) (a .ranks .now) (l .loop .i) (c .before .rank-of .result) (omega arith) (omega arith) (omega (arith, rank c)) (c .before .rank-of .ensures) (l .before .before .pre .weights-fit (l .loop .i)) (l .loop .inv .2),
+    )
+
+returns : tie.Need-returns Inv-loop μ-loop
+returns c =
+    let l = c .before in
+    let a = l .before .before .args in
+    adding-done (l .loop .totals) (a .weights .now) (a .ranks .now) (l .loop .i) (omega arith) (l .loop .inv .2)
+
+pub rank-totals-spec : {M : Type 1} → statement M
+rank-totals-spec =
+    tie.close
+    (tie.spec
+    Inv-loop
+    μ-loop
+    loop-holds
+    shared-slice-read-rank-of
+    rank-of-requires
+    mul-totals
+    element-copy-out-totals
+    mul-totals-2
+    array-read-totals
+    add-totals
+    array-write-totals
+    add-i
+    loop-less
+    loop-again
+    returns)

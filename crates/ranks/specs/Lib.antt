@@ -1,0 +1,3 @@
+-- The definitions that the contracts of `ranks` cite.
+pub mod Ranks
+pub mod Parts

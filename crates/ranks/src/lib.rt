@@ -1,0 +1,177 @@
+// A sum charged to members by rank, from the highest rank down: document 01, layer 4. It knows nothing of registers.
+//
+// At most one rank, the marginal one, is charged in part. So the totals by rank find it, one split shares what it gives, and no rank that is
+// charged whole or not at all costs a division.
+ghost use mathlib.Core.Path.{_≡_};
+ghost use mathlib.Core.Bool.{cond};
+ghost use Prim.Native.Nat.{ℕ, _≤_, _<_};
+ghost use lib.Dec.{eqb, ltb};
+ghost use lib.ListN.{length, getD};
+ghost use Rattle.lists.specs.Limits.{memberLimit, rankLimit, allocationLimit};
+ghost use Rattle.lists.specs.Sums.{total, plus};
+ghost use Rattle.split.specs.Split.{splitOf};
+ghost use Rattle.ranks.specs.Ranks.{Charges, atRank, chargesOf};
+ghost use Rattle.ranks.specs.Parts.{Weighed, Totals, Next, Marginal, rankOf, aboveRank};
+
+// The charges, place by place, and their total.
+pub struct Charged {
+    pub charges: [u64; 64],
+    pub total: u64,
+}
+
+// The marginal rank (0: none), what it gives, all that it has, and the total of all the charges.
+struct Margin {
+    rank: usize,
+    part: u64,
+    whole: u64,
+    total: u64,
+}
+
+// A byte as a rank. Bytes above the limit, 255 among them, are no rank: they count as 0, which is never charged.
+fn rank_of(byte: u8) -> usize
+    ensures { λ r. ⌜ r ≡ rankOf byte ⌝ }
+{
+    if byte > 64 {
+        return 0;
+    }
+    byte as usize
+}
+
+// The weights added up by rank. What has no rank adds to place 0, which nobody reads.
+fn rank_totals(weights: &[u64; 64], ranks: &[u8]) -> [u64; 65]
+    requires { ⌜ Weighed (now weights) (now ranks) ⌝ }
+    ensures { λ r. ⌜ Totals r (now (weights .entry)) (now (ranks .entry)) ⌝ }
+{
+    let mut totals = [0u64; 65];
+    for i in 0..64 {
+        let rank = rank_of(ranks[i]);
+        totals[rank] += weights[i];
+    }
+    totals
+}
+
+// The highest rank, `from` at most, whose total is above 0; 0 where there is none.
+fn next_rank(totals: &[u64; 65], from: usize) -> usize
+    requires { ⌜ from ≤ rankLimit ⌝ }
+    ensures { λ r. ⌜ Next (now (totals .entry)) from r ⌝ }
+{
+    let mut at = from;
+    let next = loop {
+        if at == 0 {
+            break 0;
+        }
+        if totals[at] > 0 {
+            break at;
+        }
+        at -= 1;
+    };
+    next
+}
+
+// Ranks are charged whole from the highest down, while enough is left. The first with more than is left is the marginal one.
+fn marginal(sum: u64, weights: &[u64; 64], ranks: &[u8]) -> Margin
+    requires { ⌜ Weighed (now weights) (now ranks) ⌝ }
+    ensures { λ r. ⌜ Marginal sum (now (weights .entry)) (now (ranks .entry)) (r .rank) (r .part) (r .whole) (r .total) ⌝ }
+{
+    let totals = rank_totals(weights, ranks);
+    let mut left = sum;
+    let mut rank = next_rank(&totals, 64);
+    while rank > 0 {
+        let whole = totals[rank];
+        if left < whole {
+            return Margin {
+                rank,
+                part: left,
+                whole,
+                total: sum,
+            };
+        }
+        left -= whole;
+        rank = next_rank(&totals, rank - 1);
+    }
+    Margin {
+        rank: 0,
+        part: 0,
+        whole: 0,
+        total: sum - left,
+    }
+}
+
+// A member's weight where the rank is its own, and else 0.
+fn weight_at(rank: usize, byte: u8, weight: u64) -> u64
+    ensures { λ r. ⌜ r ≡ cond (eqb rank byte) weight 0 ⌝ }
+{
+    if rank == byte as usize {
+        return weight;
+    }
+    0
+}
+
+// The weights of one rank, and 0 for the others.
+fn weights_at(rank: usize, weights: &[u64; 64], ranks: &[u8]) -> [u64; 64]
+    requires { ⌜ Weighed (now weights) (now ranks) ⌝ }
+    ensures { λ r. ⌜ r ≡ atRank rank (now (weights .entry)) (now (ranks .entry)) ⌝ }
+{
+    let mut own = [0u64; 64];
+    for i in 0..64 {
+        own[i] = weight_at(rank, ranks[i], weights[i]);
+    }
+    own
+}
+
+// What the marginal rank gives, shared over its members' weights. Where it gives nothing, nothing is split.
+fn shares(rank: usize, part: u64, whole: u64, weights: &[u64; 64], ranks: &[u8]) -> [u64; 64]
+    requires { ⌜ Weighed (now weights) (now ranks) ⌝ }
+    requires { ⌜ (part ≤ allocationLimit) × (0 < part → whole ≡ total (atRank rank (now weights) (now ranks))) ⌝ }
+    ensures { λ r. ⌜ r ≡ splitOf part (atRank rank (now (weights .entry)) (now (ranks .entry))) ⌝ }
+{
+    let mut shares = [0u64; 64];
+    if part == 0 {
+        return shares;
+    }
+    let own = weights_at(rank, weights, ranks);
+    split::split(part, whole, &own, &mut shares);
+    shares
+}
+
+// A member's weight where its own rank is above, and else 0.
+fn weight_above(rank: usize, byte: u8, weight: u64) -> u64
+    ensures { λ r. ⌜ r ≡ cond (ltb rank (rankOf byte)) weight 0 ⌝ }
+{
+    if rank < rank_of(byte) {
+        return weight;
+    }
+    0
+}
+
+// The ranks above are charged whole: their weights are added to the charges.
+fn charge_above(rank: usize, weights: &[u64; 64], ranks: &[u8], charges: &mut [u64; 64])
+    requires { ⌜ Weighed (now weights) (now ranks) ⌝ }
+    requires { ⌜ (length (now charges) ≡ memberLimit) × ((k : ℕ) → getD (now charges) k 0 ≤ allocationLimit) ⌝ }
+    ensures { λ _. ⌜ now (charges .exit) ≡ plus (aboveRank rank (now (weights .entry)) (now (ranks .entry))) (now (charges .entry)) ⌝ }
+{
+    for i in 0..64 {
+        let whole = weight_above(rank, ranks[i], weights[i]);
+        charges[i] += whole;
+    }
+}
+
+// `sum` charged to `weights` by rank. The total needs no second addition: it is the sum, less what no rank could give.
+pub fn charge_by_rank(sum: u64, weights: [u64; 64], ranks: &[u8]) -> Charged
+    requires { ⌜ Charges sum weights (now ranks) ⌝ }
+    ensures { λ r. ⌜ (r .charges ≡ chargesOf sum weights (now (ranks .entry))) × (r .total ≡ total (r .charges)) ⌝ }
+{
+    if sum == 0 {
+        return Charged {
+            charges: [0u64; 64],
+            total: 0,
+        };
+    }
+    let margin = marginal(sum, &weights, ranks);
+    let mut charges = shares(margin.rank, margin.part, margin.whole, &weights, ranks);
+    charge_above(margin.rank, &weights, ranks, &mut charges);
+    Charged {
+        charges,
+        total: margin.total,
+    }
+}

@@ -1,0 +1,154 @@
+-- Laws of a default: what it charges is what there is to place, no charge passes its pocket, and layers and ranks are charged in order.
+use Prim.Native.Nat.{ℕ, zero, suc, _+_, _-_, _≤_, _<_, min, zero-le}
+use mathlib.Core.Path.{_≡_, refl, ap, sym, _∙_}
+use mathlib.Core.Bool.{Bool, true, false, _||_, _&&_, false≢true, true≢false}
+use mathlib.Core.List.{List, [], _∷_, map}
+use native.Mathlib.Omega.{arith}
+use borrow.Author.Tests.{le-ltb, ltb-false}
+use lib.Dec.{eqb, ltb}
+use lib.ListN.{length, getD, set, length-set, length-map}
+use Rattle.lists.specs.Limits.{memberLimit, rankLimit}
+use Rattle.lists.specs.Sums.{total, plus, minus, keep}
+use Rattle.lists.proofs.Checks.{neither, and-right}
+use Rattle.lists.proofs.Places.{getD-map-any}
+use Rattle.lists.proofs.Sums.{getD-minus, keep-le, unkept, length-keep, length-minus, getD-le-total}
+use Rattle.split.proofs.Laws.{split-within, split-whole, total-within, length-split, split-none}
+use Rattle.ranks.specs.Ranks.{chargesOf}
+use Rattle.ranks.proofs.Laws.{length-charges, charge-within, exhausted, charges-within as charges-within-sum}
+use Rattle.waterfall.specs.Register.{live, inDefault, figure, replace, GivenBack}
+use Rattle.waterfall.specs.Default.{others, rooms, fallenCall, toPlace, onMargin, after1, onOwnFund, after2, onTranche1, after3, charges, after4, onTranche2, after5, onCalls, calls, shortfall, misranked, exceeds, overdrawn}
+use Rattle.waterfall.specs.declared.Register.{Register}
+
+-- a member that is in default, the defaulter too, is none of the others
+pub unmarked : (r : Register) (member k : ℕ) → getD (replace (r .status) member inDefault) k 0 ≡ inDefault → getD (others r member) k false ≡ false
+unfolding others
+unmarked r member k e = getD-map-any (eqb live) (replace (r .status) member inDefault) k refl ∙ ap (eqb live) e
+
+-- the rest of a cap is at most cap minus what was called
+pub rooms-within : (r : Register) (member k : ℕ) → getD (rooms r member) k 0 ≤ getD (r .cap) k 0 - getD (r .called) k 0
+unfolding rooms
+rooms-within r member k = omega (arith, keep-le (others r member) (minus (r .cap) (r .called)) k, getD-minus (r .cap) (r .called) k)
+
+module _ (r : Register) (member loss : ℕ) (ranks : List ℕ) where
+  -- a charge is at most its weight, so at most its contribution, and at most what is left to place
+  pub charges-weighed : (k : ℕ) → getD (charges r member loss ranks) k 0 ≤ getD (keep (others r member) (r .contribution)) k 0
+  unfolding charges
+  charges-weighed k = charge-within (after3 r member loss) (keep (others r member) (r .contribution)) ranks k
+
+  pub charges-within : (k : ℕ) → getD (charges r member loss ranks) k 0 ≤ getD (r .contribution) k 0
+  charges-within k = omega (arith, charges-weighed k, keep-le (others r member) (r .contribution) k)
+
+  pub charges-placed : total (charges r member loss ranks) ≤ after3 r member loss
+  unfolding charges
+  charges-placed = charges-within-sum (after3 r member loss) (keep (others r member) (r .contribution)) ranks
+
+  -- a call is at most the rest of its cap, and the calls are layer 6 together
+  pub calls-within : (k : ℕ) → getD (calls r member loss ranks) k 0 ≤ getD (rooms r member) k 0
+  unfolding calls onCalls
+  calls-within k = split-within (onCalls r member loss ranks) (rooms r member) (omega arith) k
+
+  pub calls-total : total (calls r member loss ranks) ≡ onCalls r member loss ranks
+  unfolding calls onCalls
+  calls-total = total-within (onCalls r member loss ranks) (rooms r member) (omega arith)
+
+  -- what each layer gives and what is left after it are what was left before it
+  pub left1 : onMargin r member loss + after1 r member loss ≡ toPlace r member loss
+  unfolding after1 onMargin
+  left1 = omega arith
+
+  pub left2 : onOwnFund r member loss + after2 r member loss ≡ after1 r member loss
+  unfolding after2 onOwnFund
+  left2 = omega arith
+
+  pub left3 : onTranche1 r member loss + after3 r member loss ≡ after2 r member loss
+  unfolding after3 onTranche1
+  left3 = omega arith
+
+  pub left4 : total (charges r member loss ranks) + after4 r member loss ranks ≡ after3 r member loss
+  unfolding after4
+  left4 = omega (arith, charges-placed)
+
+  pub left5 : onTranche2 r member loss ranks + after5 r member loss ranks ≡ after4 r member loss ranks
+  unfolding after5 onTranche2
+  left5 = omega arith
+
+  pub left6 : onCalls r member loss ranks + shortfall r member loss ranks ≡ after5 r member loss ranks
+  unfolding shortfall onCalls
+  left6 = omega arith
+
+  -- the six layers and the shortfall are the loss and the fallen call
+  pub placed : onMargin r member loss + onOwnFund r member loss + onTranche1 r member loss + total (charges r member loss ranks) + onTranche2 r member loss ranks + onCalls r member loss ranks + shortfall r member loss ranks ≡ loss + fallenCall r member
+  unfolding toPlace
+  placed = omega (arith, left1, left2, left3, left4, left5, left6)
+
+  -- each pocket gives at most what it has
+  pub margin-gives : onMargin r member loss ≤ figure (r .margin) member
+  unfolding onMargin
+  margin-gives = omega arith
+
+  pub own-gives : onOwnFund r member loss ≤ figure (r .contribution) member
+  unfolding onOwnFund
+  own-gives = omega arith
+
+  pub tranche1-gives : onTranche1 r member loss ≤ r .first
+  unfolding onTranche1
+  tranche1-gives = omega arith
+
+  pub tranche2-gives : onTranche2 r member loss ranks ≤ r .second
+  unfolding onTranche2
+  tranche2-gives = omega arith
+
+  -- where something is left after a layer, the layer has given all it has
+  pub emptied1 : 0 < after1 r member loss → onMargin r member loss ≡ figure (r .margin) member
+  unfolding after1 onMargin
+  emptied1 h = omega arith
+
+  pub emptied2 : 0 < after2 r member loss → onOwnFund r member loss ≡ figure (r .contribution) member
+  unfolding after2 onOwnFund
+  emptied2 h = omega arith
+
+  pub emptied3 : 0 < after3 r member loss → onTranche1 r member loss ≡ r .first
+  unfolding after3 onTranche1
+  emptied3 h = omega arith
+
+  pub emptied4 : ((k : ℕ) → 0 < getD (keep (others r member) (r .contribution)) k 0 → (0 < getD ranks k 0) × (getD ranks k 0 ≤ rankLimit))
+      → 0 < after4 r member loss ranks → (k : ℕ) → getD (charges r member loss ranks) k 0 ≡ getD (keep (others r member) (r .contribution)) k 0
+  unfolding after4 charges
+  emptied4 ranked h k = exhausted (after3 r member loss) (keep (others r member) (r .contribution)) ranks ranked (omega arith) k
+
+  pub emptied5 : 0 < after5 r member loss ranks → onTranche2 r member loss ranks ≡ r .second
+  unfolding after5 onTranche2
+  emptied5 h = omega arith
+
+  pub emptied6 : 0 < shortfall r member loss ranks → (k : ℕ) → getD (calls r member loss ranks) k 0 ≡ getD (rooms r member) k 0
+  unfolding shortfall calls onCalls
+  emptied6 h k =
+      let e : min (after5 r member loss ranks) (total (rooms r member)) ≡ total (rooms r member) = omega arith in
+      rw e (ap (λ (xs : List ℕ). getD xs k 0) (split-whole (rooms r member)))
+
+-- 19 never comes -------------------------------------------------------------------
+
+pub exceeds-none : (shares pockets : List ℕ) → ((k : ℕ) → getD shares k 0 ≤ getD pockets k 0) → exceeds shares pockets ≡ false
+unfolding exceeds
+exceeds-none [] pockets h = refl
+exceeds-none (s ∷ shares) [] h = rw (le-ltb 0 s (h 0), exceeds-none shares [] (λ k. h (suc k)))
+exceeds-none (s ∷ shares) (p ∷ pockets) h = rw (le-ltb p s (h 0), exceeds-none shares pockets (λ k. h (suc k)))
+
+pub never-overdrawn : (r : Register) (member loss : ℕ) (ranks : List ℕ) → overdrawn r member loss ranks ≡ false
+never-overdrawn r member loss ranks =
+    rw (
+      exceeds-none (charges r member loss ranks) (r .contribution) (charges-within r member loss ranks),
+      exceeds-none (calls r member loss ranks) (rooms r member) (calls-within r member loss ranks),
+    )
+
+-- the ranks that are read -----------------------------------------------------------
+
+-- where no rank is refused, each rank that is read is 1 to 64
+pub ranks-read : (read : List Bool) (ranks : List ℕ) → misranked read ranks ≡ false → (k : ℕ) → k < length ranks → getD read k false ≡ true
+    → (0 < getD ranks k 0) × (getD ranks k 0 ≤ rankLimit)
+unfolding misranked
+ranks-read [] ranks e k h t = absurd (false≢true t)
+ranks-read (b ∷ read) [] e k h t = absurd (omega arith)
+ranks-read (b ∷ read) (rank ∷ ranks) e zero h t =
+    let o = neither _ _ (and-right b _ t (neither _ _ e .0)) in (ltb-false rank 1 (o .0), ltb-false rankLimit rank (o .1))
+ranks-read (b ∷ read) (rank ∷ ranks) e (suc k) h t = ranks-read read ranks (neither (b && (ltb rank 1 || ltb rankLimit rank)) _ e .1) k (omega arith) t

@@ -1,0 +1,226 @@
+-- Each call gives back a register that satisfies `GivenBack`, of one that does.
+use Prim.Native.Nat.{ℕ, zero, suc, _+_, _-_, _≤_, _<_, zero-le}
+use mathlib.Core.Path.{_≡_, refl, ap, sym, _∙_}
+use mathlib.Core.Bool.{Bool, true, false, _||_}
+use mathlib.Core.List.{List}
+use native.Mathlib.Omega.{arith}
+use borrow.Author.Tests.{ltb-false}
+use lib.Dec.{eqb, ltb}
+use lib.ListN.{length, getD, set, length-set, length-replicate, length-map}
+use Rattle.lists.specs.Checks.{check}
+use Rattle.lists.specs.Limits.{memberLimit, amountLimit, sumLimit}
+use Rattle.lists.specs.Sums.{total, plus, minus, keep}
+use Rattle.lists.proofs.Checks.{check-by, neither, no-refusal}
+use Rattle.lists.proofs.Places.{set-all, set-both}
+use Rattle.lists.proofs.Sums.{getD-zeros, getD-plus, getD-minus, length-plus, length-minus, length-keep, unkept, getD-le-total}
+use Rattle.split.proofs.Laws.{length-split}
+use Rattle.ranks.proofs.Laws.{length-charges}
+use Rattle.waterfall.specs.Register.{absent, live, inDefault, figure, replace, none, emptyRegister, GivenBack}
+use Rattle.waterfall.specs.Calls.{paidOf, paymentOf, replenishedOf, replenishmentOf, closedOf, closeOf}
+use Rattle.waterfall.specs.Default.{others, rooms, onMargin, onOwnFund, onTranche1, charges, onTranche2, onCalls, calls, after3, settledOf, defaultRefusal, defaultOf}
+use Rattle.waterfall.specs.declared.Register.{Register}
+use Rattle.waterfall.specs.declared.Outcome.{Outcome}
+use Rattle.waterfall.proofs.Figures.{figure-le-at}
+use Rattle.waterfall.proofs.Admitted.{admitted}
+use Rattle.waterfall.proofs.Default.{unmarked, rooms-within, calls-within}
+
+abbrev Kept : Outcome → Type 0
+Kept o = GivenBack (o .register)
+
+pub given-empty : GivenBack emptyRegister
+given-empty =
+    let zeros : (k : ℕ) → _≡_ {A = ℕ} (getD none k 0) 0 = getD-zeros memberLimit in
+    record {
+      status-length = refl;
+      margin-length = refl;
+      contribution-length = refl;
+      requirement-length = refl;
+      cap-length = refl;
+      outstanding-length = refl;
+      called-length = refl;
+      status-known = λ k. omega (arith, zeros k);
+      margin-fits = λ k. omega (arith, zeros k);
+      contribution-fits = λ k. omega arith;
+      requirement-fits = λ k. omega (arith, zeros k);
+      cap-fits = λ k. omega (arith, zeros k);
+      called-fits = λ k. omega arith;
+      outstanding-fits = λ k. omega arith;
+      defaulter-owes-none = λ k e. zeros k;
+      tranches-fit = omega arith;
+    }
+
+module _ (r : Register) (g : GivenBack r) where
+  -- a figure that falls stays within what bounds it
+  fallen-figure : (bound : ℕ → ℕ) (xs : List ℕ) (member less : ℕ) → ((k : ℕ) → getD xs k 0 ≤ bound k) → (k : ℕ) → getD (replace xs member (figure xs member - less)) k 0 ≤ bound k
+  fallen-figure bound xs member less h =
+      set-all (λ k x. x ≤ bound k) xs (member - 1) (figure xs member - less) h (omega (arith, figure-le-at xs member, h (member - 1)))
+
+  pub given-paid : (member amount : ℕ) → GivenBack (paidOf r member amount)
+  unfolding paidOf
+  given-paid member amount =
+      record {
+        status-length = g .status-length;
+        margin-length = g .margin-length;
+        contribution-length = g .contribution-length;
+        requirement-length = g .requirement-length;
+        cap-length = g .cap-length;
+        outstanding-length = simp length-set (g .outstanding-length);
+        called-length = g .called-length;
+        status-known = g .status-known;
+        margin-fits = g .margin-fits;
+        contribution-fits = g .contribution-fits;
+        requirement-fits = g .requirement-fits;
+        cap-fits = g .cap-fits;
+        called-fits = g .called-fits;
+        outstanding-fits = fallen-figure (getD′ (r .called)) (r .outstanding) member amount (g .outstanding-fits);
+        defaulter-owes-none =
+            set-all (λ k x. getD (r .status) k 0 ≡ inDefault → x ≡ 0) (r .outstanding) (member - 1) _ (g .defaulter-owes-none)
+            (λ e. omega (arith, figure-le-at (r .outstanding) member, g .defaulter-owes-none (member - 1) e));
+        tranches-fit = g .tranches-fit;
+      }
+    where
+      getD′ : List ℕ → ℕ → ℕ
+      getD′ xs k = getD xs k 0
+
+  pub given-replenished : (member amount : ℕ) → figure (r .contribution) member + amount ≤ figure (r .requirement) member → GivenBack (replenishedOf r member amount)
+  unfolding replenishedOf
+  given-replenished member amount h =
+      record {
+        status-length = g .status-length;
+        margin-length = g .margin-length;
+        contribution-length = simp length-set (g .contribution-length);
+        requirement-length = g .requirement-length;
+        cap-length = g .cap-length;
+        outstanding-length = g .outstanding-length;
+        called-length = g .called-length;
+        status-known = g .status-known;
+        margin-fits = g .margin-fits;
+        contribution-fits =
+            set-all (λ k x. x ≤ getD (r .requirement) k 0) (r .contribution) (member - 1) _ (g .contribution-fits)
+            (omega (arith, figure-le-at (r .requirement) member));
+        requirement-fits = g .requirement-fits;
+        cap-fits = g .cap-fits;
+        called-fits = g .called-fits;
+        outstanding-fits = g .outstanding-fits;
+        defaulter-owes-none = g .defaulter-owes-none;
+        tranches-fit = g .tranches-fit;
+      }
+
+  -- with nothing outstanding, nothing need have been called
+  pub given-closed : total (r .outstanding) ≤ 0 → GivenBack (closedOf r)
+  unfolding closedOf
+  given-closed h =
+      let zeros : (k : ℕ) → _≡_ {A = ℕ} (getD none k 0) 0 = getD-zeros memberLimit in
+      record {
+        status-length = g .status-length;
+        margin-length = g .margin-length;
+        contribution-length = g .contribution-length;
+        requirement-length = g .requirement-length;
+        cap-length = g .cap-length;
+        outstanding-length = g .outstanding-length;
+        called-length = refl;
+        status-known = g .status-known;
+        margin-fits = g .margin-fits;
+        contribution-fits = g .contribution-fits;
+        requirement-fits = g .requirement-fits;
+        cap-fits = g .cap-fits;
+        called-fits = λ k. omega (arith, zeros k);
+        outstanding-fits = λ k. omega (arith, getD-le-total (r .outstanding) k);
+        defaulter-owes-none = g .defaulter-owes-none;
+        tranches-fit = g .tranches-fit;
+      }
+
+  -- the length of the kept lists of a default
+  pub length-others : (member : ℕ) → length (others r member) ≡ memberLimit
+  unfolding others
+  length-others member = length-map (replace (r .status) member inDefault) (eqb live) ∙ length-set (r .status) (member - 1) inDefault ∙ g .status-length
+
+  length-rooms : (member : ℕ) → length (rooms r member) ≡ memberLimit
+  unfolding rooms
+  length-rooms member =
+      let m : length (minus (r .cap) (r .called)) ≡ memberLimit = length-minus (r .cap) (r .called) ∙ g .cap-length in
+      length-keep (others r member) (minus (r .cap) (r .called)) (length-others member ∙ sym m) ∙ m
+
+  pub length-calls : (member loss : ℕ) (ranks : List ℕ) → length (calls r member loss ranks) ≡ memberLimit
+  unfolding calls
+  length-calls member loss ranks = length-split (onCalls r member loss ranks) (rooms r member) ∙ length-rooms member
+
+  pub length-charged : (member loss : ℕ) (ranks : List ℕ) → length ranks ≡ memberLimit → length (charges r member loss ranks) ≡ memberLimit
+  unfolding charges
+  length-charged member loss ranks e =
+      let m : length (keep (others r member) (r .contribution)) ≡ memberLimit = length-keep (others r member) (r .contribution) (length-others member ∙ sym (g .contribution-length)) ∙ g .contribution-length in
+      length-charges (after3 r member loss) (keep (others r member) (r .contribution)) ranks (e ∙ sym m) ∙ m
+
+  -- a member that is in default, the defaulter too, is not called
+  pub uncalled : (member loss : ℕ) (ranks : List ℕ) (k : ℕ) → getD (replace (r .status) member inDefault) k 0 ≡ inDefault → getD (calls r member loss ranks) k 0 ≡ 0
+  unfolding rooms
+  uncalled member loss ranks k e =
+      omega (
+        arith,
+        calls-within r member loss ranks k,
+        unkept (others r member) (minus (r .cap) (r .called)) k (unmarked r member k e),
+      )
+
+  pub given-settled : (member loss : ℕ) (ranks : List ℕ) → length ranks ≡ memberLimit → GivenBack (settledOf r member loss ranks)
+  unfolding settledOf
+  given-settled member loss ranks e =
+      let called : List ℕ = r .called in
+      let calling : List ℕ = calls r member loss ranks in
+      let charged : List ℕ = charges r member loss ranks in
+      let room : (k : ℕ) → getD calling k 0 ≤ getD (r .cap) k 0 - getD called k 0 =
+      λ k. omega (arith, calls-within r member loss ranks k, rooms-within r member k) in
+      let lc : length calling ≡ memberLimit = length-calls member loss ranks in
+      let lo : length (replace (r .outstanding) member 0) ≡ memberLimit = length-set (r .outstanding) (member - 1) 0 ∙ g .outstanding-length in
+      let own : List ℕ = replace (r .contribution) member (figure (r .contribution) member - onOwnFund r member loss) in
+      record {
+        status-length = simp length-set (g .status-length);
+        margin-length = simp length-set (g .margin-length);
+        contribution-length = length-minus own charged ∙ length-set (r .contribution) (member - 1) _ ∙ g .contribution-length;
+        requirement-length = g .requirement-length;
+        cap-length = g .cap-length;
+        outstanding-length = length-plus (replace (r .outstanding) member 0) calling (lo ∙ sym lc) ∙ lo;
+        called-length = length-plus called calling (g .called-length ∙ sym lc) ∙ g .called-length;
+        status-known = set-all (λ k x. x ≤ inDefault) (r .status) (member - 1) inDefault (g .status-known) (omega arith);
+        margin-fits = fallen-figure (λ k. amountLimit) (r .margin) member (onMargin r member loss) (g .margin-fits);
+        contribution-fits = λ k.
+            omega (arith, getD-minus own charged k, fallen-figure (λ n. getD (r .requirement) n 0) (r .contribution) member (onOwnFund r member loss) (g .contribution-fits) k);
+        requirement-fits = g .requirement-fits;
+        cap-fits = g .cap-fits;
+        called-fits = λ k. omega (arith, getD-plus called calling k, room k, g .called-fits k);
+        outstanding-fits = λ k.
+            omega (
+              arith,
+              getD-plus called calling k,
+              getD-plus (replace (r .outstanding) member 0) calling k,
+              set-all (λ n x. x ≤ getD called n 0) (r .outstanding) (member - 1) 0 (g .outstanding-fits) zero-le k,
+            );
+        defaulter-owes-none = λ k s.
+            omega (
+              arith,
+              getD-plus (replace (r .outstanding) member 0) calling k,
+              uncalled member loss ranks k s,
+              set-both (λ n a b. a ≡ inDefault → b ≡ 0) (r .status) (r .outstanding) (member - 1) inDefault 0
+                  (g .status-length ∙ sym (g .outstanding-length)) (g .defaulter-owes-none) (λ _. refl) k s,
+            );
+        tranches-fit = omega (arith, g .tranches-fit);
+      }
+
+pub given-payment : (r : Register) (member amount : ℕ) → GivenBack r → GivenBack (paymentOf r member amount .register)
+unfolding paymentOf
+given-payment r member amount g =
+    check-by Kept _ _ _ (λ _. g) (λ _. check-by Kept _ _ _ (λ _. g) (λ _. check-by Kept _ _ _ (λ _. g) (λ _. given-paid r g member amount)))
+
+pub given-replenishment : (r : Register) (member amount : ℕ) → GivenBack r → GivenBack (replenishmentOf r member amount .register)
+unfolding replenishmentOf
+given-replenishment r member amount g =
+    check-by Kept _ _ _ (λ _. g) (λ _. check-by Kept _ _ _ (λ _. g) (λ _. check-by Kept _ _ _ (λ _. g)
+    (λ e. given-replenished r g member amount (ltb-false _ _ (neither (eqb amount 0) _ e .1)))))
+
+pub given-close : (r : Register) → GivenBack r → GivenBack (closeOf r .register)
+unfolding closeOf
+given-close r g = check-by Kept _ _ _ (λ _. g) (λ e. given-closed r g (ltb-false _ _ e))
+
+pub given-default : (r : Register) (member loss : ℕ) (ranks slip : List ℕ) → GivenBack r → GivenBack (defaultOf r member loss ranks slip .register)
+unfolding defaultOf
+given-default r member loss ranks slip g =
+    check-by Kept _ _ _ (λ _. g) (λ e. given-settled r g member loss ranks (admitted r member loss ranks slip (no-refusal _ e) .ranks-length))

@@ -1,0 +1,9 @@
+-- The definitions that the contracts of `waterfall` cite.
+pub mod Register
+pub mod Opening
+pub mod Reply
+pub mod Default
+pub mod Declaring
+pub mod Calls
+pub mod View
+pub mod Examples

@@ -1,0 +1,57 @@
+// The register and the calls of a drill by value: document 01, "The opening register" and "Declaring a default".
+mod checks;
+pub mod close;
+pub mod declaration;
+pub mod payment;
+pub mod replenishment;
+pub mod sheet;
+pub mod view;
+
+use sheets::Refusal;
+
+// The register. Its fields are private: hosts can make none. A member's figures stand at its number less 1.
+pub struct Register {
+    // 0: not in the register; 1: live; 2: in default
+    status: [u8; 64],
+    margin: [u64; 64],
+    contribution: [u64; 64],
+    requirement: [u64; 64],
+    cap: [u64; 64],
+    outstanding: [u64; 64],
+    // what was called since the last close
+    called: [u64; 64],
+    // the tranches of the own contribution
+    first: u64,
+    second: u64,
+}
+
+// What an opening hands back.
+pub struct Opened {
+    pub refusal: Refusal,
+    pub register: Register,
+}
+
+// What an accepted default answers: the fallen (lapsed) call, the six layers and the shortfall.
+pub struct Allocation {
+    pub fallen: u64,
+    pub margin: u64,
+    pub own: u64,
+    pub tranche1: u64,
+    pub members: u64,
+    pub tranche2: u64,
+    pub calls: u64,
+    pub short: u64,
+}
+
+// What a drill call answers.
+pub enum Reply {
+    Refused(u8),
+    Accepted,
+    Allocated(Allocation),
+}
+
+// What a drill call hands back.
+pub struct Outcome {
+    pub reply: Reply,
+    pub register: Register,
+}

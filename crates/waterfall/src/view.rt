@@ -1,0 +1,60 @@
+// What a host prints of a register.
+use crate::Register;
+ghost use mathlib.Core.Path.{_≡_};
+ghost use Prim.Native.Nat.{ℕ};
+ghost use Rattle.waterfall.specs.View.{figuresOf, tranchesOf};
+
+// A member's figures, all 0 for a number that is not in the register. Status 0: not in the register; 1: live; 2: in default.
+pub struct MemberView {
+    pub status: u8,
+    pub margin: u64,
+    pub contribution: u64,
+    pub requirement: u64,
+    pub cap: u64,
+    pub outstanding: u64,
+    // since the last close
+    pub called: u64,
+}
+
+// The tranches of the own contribution.
+pub struct TranchesView {
+    pub first: u64,
+    pub second: u64,
+}
+
+pub fn member(register: Register, member: u64) -> MemberView
+    ensures { λ r. ⌜ r ≡ figuresOf register member ⌝ }
+{
+    if 0 < member {
+        if member <= 64 {
+            let at = (member - 1) as usize;
+            return MemberView {
+                status: register.status[at],
+                margin: register.margin[at],
+                contribution: register.contribution[at],
+                requirement: register.requirement[at],
+                cap: register.cap[at],
+                outstanding: register.outstanding[at],
+                called: register.called[at],
+            };
+        }
+    }
+    MemberView {
+        status: 0,
+        margin: 0,
+        contribution: 0,
+        requirement: 0,
+        cap: 0,
+        outstanding: 0,
+        called: 0,
+    }
+}
+
+pub fn tranches(register: Register) -> TranchesView
+    ensures { λ r. ⌜ r ≡ tranchesOf register ⌝ }
+{
+    TranchesView {
+        first: register.first,
+        second: register.second,
+    }
+}

@@ -1,0 +1,193 @@
+-- The laws of a single step, for a default on a register that was given back.
+use Prim.Native.Nat.{ℕ, zero, suc, _+_, _-_, _≤_, _<_}
+use mathlib.Core.Path.{_≡_, refl, ap, sym, _∙_}
+use mathlib.Core.Bool.{Bool, true, false, cond, _&&_, true≢false, false≢true}
+use mathlib.Core.List.{List, _++_, append-assoc}
+use native.Mathlib.Omega.{arith}
+use borrow.Author.Tests.{ltb-true, eqb-false}
+use lib.Dec.{eqb, ltb}
+use lib.ListN.{length, getD, take, drop}
+use lib.Seq.{take-at, drop-at}
+use Rattle.lists.specs.Checks.{check}
+use Rattle.lists.specs.Limits.{memberLimit}
+use Rattle.lists.specs.Sums.{total, plus, minus}
+use Rattle.lists.proofs.Checks.{no-refusal}
+use Rattle.waterfall.specs.Register.{absent, live, inDefault, figure, replace, GivenBack}
+use Rattle.waterfall.specs.Reply.{refuse}
+use Rattle.waterfall.specs.Default.{fallenCall, onMargin, onOwnFund, onTranche1, charges, onTranche2, onCalls, calls, shortfall, after1, after2, after3, after4, after5, allocationOf, settledOf, defaultRefusal, defaultOf, defaultSlip}
+use Rattle.waterfall.specs.declared.Register.{Register}
+use Rattle.waterfall.specs.declared.Reply.the-variants.{Allocated}
+use Rattle.waterfall.specs.declared.Outcome.{Outcome}
+use Rattle.waterfall.proofs.Admitted.{Admitted, admitted}
+use Rattle.waterfall.proofs.Default.{placed, margin-gives, own-gives, tranche1-gives, tranche2-gives, charges-within, left1, left2, left3, left4, left5, left6}
+use Rattle.waterfall.proofs.Figures.{figure-same, figure-other, figure-plus, figure-le, by-member}
+use Rattle.waterfall.proofs.Given.{given-settled, length-calls, length-charged}
+use Rattle.waterfall.proofs.Order.{defaulter-known, settled-own, settled-other, settled-margin, defaulter-uncharged, empty1, empty2, empty3, empty4, empty5, empty6, by-rank}
+use Rattle.drill.specs.Drill.{Event}
+use Rattle.drill.specs.Counting.{lossHanded, defaults}
+use Rattle.drill.specs.declared.DrillCall.{DrillCall}
+use Rattle.drill.specs.declared.DrillCall.the-variants.{Default}
+use Rattle.drill.proofs.Laws.{StepLaws, Ordered}
+use Rattle.drill.proofs.Calls.{seen, refused-laws}
+
+-- an accepted default
+module _ (r : Register) (g : GivenBack r) (member loss : ℕ) (ranks slip : List ℕ) (a : Admitted r member loss ranks slip) where
+  charged : List ℕ
+  charged = charges r member loss ranks
+
+  calling : List ℕ
+  calling = calls r member loss ranks
+
+  left : List ℕ
+  left = charged ++ calling ++ drop (memberLimit + memberLimit) slip
+
+  -- the slip's numbers are the charges and the calls
+  parted : left ≡ charged ++ (calling ++ drop (memberLimit + memberLimit) slip)
+  unfolding left
+  parted = append-assoc charged calling (drop (memberLimit + memberLimit) slip)
+
+  charges-on : take memberLimit left ≡ charged
+  unfolding charged
+  charges-on = ap (take memberLimit) parted ∙ take-at charged _ memberLimit (length-charged r g member loss ranks (a .ranks-length))
+
+  calls-on : take memberLimit (drop memberLimit left) ≡ calling
+  unfolding charged calling
+  calls-on =
+      ap (λ (xs : List ℕ). take memberLimit (drop memberLimit xs)) parted
+      ∙ ap (take memberLimit) (drop-at charged _ memberLimit (length-charged r g member loss ranks (a .ranks-length)))
+      ∙ take-at calling _ memberLimit (length-calls r g member loss ranks)
+
+  event : Event
+  event = seen (Default member loss) ranks (record { reply = Allocated (allocationOf r member loss ranks); register = settledOf r member loss ranks }) left
+
+  -- where something is left after a layer, something was left before it, and the layer is empty
+  up2 : 0 < after2 r member loss → 0 < after1 r member loss
+  up2 h = omega (arith, left2 r member loss ranks)
+
+  up3 : 0 < after3 r member loss → 0 < after2 r member loss
+  up3 h = omega (arith, left3 r member loss ranks)
+
+  up4 : 0 < after4 r member loss ranks → 0 < after3 r member loss
+  up4 h = omega (arith, left4 r member loss ranks)
+
+  up5 : 0 < after5 r member loss ranks → 0 < after4 r member loss ranks
+  up5 h = omega (arith, left5 r member loss ranks)
+
+  abbrev e1 : 0 < after1 r member loss → figure (settledOf r member loss ranks .margin) member ≡ 0
+  e1 = empty1 r g member loss ranks slip a
+
+  abbrev e2 : 0 < after2 r member loss → figure (settledOf r member loss ranks .contribution) member ≡ 0
+  e2 = empty2 r g member loss ranks slip a
+
+  abbrev e3 : 0 < after3 r member loss → settledOf r member loss ranks .first ≡ 0
+  e3 = empty3 r g member loss ranks slip a
+
+  abbrev e5 : 0 < after5 r member loss ranks → settledOf r member loss ranks .second ≡ 0
+  e5 = empty5 r g member loss ranks slip a
+
+  allocated-ordered : Ordered r event member
+  unfolding event allocationOf charged
+  allocated-ordered =
+      let e4 = empty4 r g member loss ranks slip a in
+      let e6 = empty6 r g member loss ranks slip a in
+      record {
+        layer2-charged = λ h. e1 (omega (arith, left2 r member loss ranks));
+        layer3-charged = λ h.
+            let h2 : 0 < after2 r member loss = omega (arith, left3 r member loss ranks) in (e1 (up2 h2), e2 h2);
+        layer4-charged = λ h.
+            let h3 : 0 < after3 r member loss = omega (arith, left4 r member loss ranks) in
+            (e1 (up2 (up3 h3)), e2 (up3 h3), e3 h3);
+        layer5-charged = λ h.
+            let h4 : 0 < after4 r member loss ranks = omega (arith, left5 r member loss ranks) in
+            (e1 (up2 (up3 (up4 h4))), e2 (up3 (up4 h4)), e3 (up4 h4), e4 h4);
+        layer6-charged = λ h.
+            let h5 : 0 < after5 r member loss ranks = omega (arith, left6 r member loss ranks) in
+            (e1 (up2 (up3 (up4 (up5 h5)))), e2 (up3 (up4 (up5 h5))), e3 (up4 (up5 h5)), e4 (up5 h5), e5 h5);
+        short = λ h.
+            let h5 : 0 < after5 r member loss ranks = omega (arith, left6 r member loss ranks) in
+            (e1 (up2 (up3 (up4 (up5 h5)))), e2 (up3 (up4 (up5 h5))), e3 (up4 (up5 h5)), e4 (up5 h5), e5 h5, e6 h);
+        by-rank = λ m n p. by-rank r g member loss ranks slip a m n (rw charges-on at p);
+      }
+
+  allocated-laws : StepLaws r event
+  unfolding event allocationOf settledOf charged calling fallenCall
+  allocated-laws =
+      let k = defaulter-known r g member loss ranks slip a in
+      let charge : (m : ℕ) → figure (take memberLimit left) m ≡ figure charged m = λ m. ap (λ (xs : List ℕ). figure xs m) charges-on in
+      let call : (m : ℕ) → figure (take memberLimit (drop memberLimit left)) m ≡ figure calling m = λ m. ap (λ (xs : List ℕ). figure xs m) calls-on in
+      record {
+        given = given-settled r g member loss ranks (a .ranks-length);
+        cap-stays = refl;
+        placed = placed r member loss ranks;
+        margin = λ m.
+            by-member (λ b. figure (r .margin) m ≡ figure (settledOf r member loss ranks .margin) m + cond b (onMargin r member loss) 0) member m
+            (λ e.
+            omega (
+              arith,
+              margin-gives r member loss ranks,
+              settled-margin r g member loss ranks slip a,
+              ap (figure (r .margin)) e,
+              ap (figure (settledOf r member loss ranks .margin)) e,
+            ))
+            (λ d. omega (arith, figure-other (r .margin) member m (figure (r .margin) member - onMargin r member loss) (k .0) d));
+        contribution = λ m.
+            by-member (λ b. figure (r .contribution) m + 0 ≡ figure (settledOf r member loss ranks .contribution) m + cond b (onOwnFund r member loss) 0 + figure (take memberLimit left) m) member m
+            (λ e.
+            omega (
+              arith,
+              charge m,
+              own-gives r member loss ranks,
+              settled-own r g member loss ranks slip a,
+              defaulter-uncharged r g member loss ranks slip a,
+              ap (figure (r .contribution)) e,
+              ap (figure (settledOf r member loss ranks .contribution)) e,
+              ap (figure (charges r member loss ranks)) e,
+            ))
+            (λ d.
+            omega (
+              arith,
+              charge m,
+              settled-other r g member loss ranks slip a m d,
+              figure-le (charges r member loss ranks) (r .contribution) (charges-within r member loss ranks) m,
+            ));
+        tranche1 = omega (arith, tranche1-gives r member loss ranks);
+        tranche2 = omega (arith, tranche2-gives r member loss ranks);
+        calls = λ m.
+            by-member (λ b. figure (take memberLimit (drop memberLimit left)) m + figure (r .outstanding) m ≡ 0 + figure (settledOf r member loss ranks .outstanding) m + cond b (fallenCall r member) 0) member m
+            (λ e.
+            omega (
+              arith,
+              call m,
+              figure-plus (replace (r .outstanding) member 0) (calls r member loss ranks) m,
+              figure-same (r .outstanding) member m 0 (k .0) (omega (arith, k, g .outstanding-length)) e,
+              ap (figure (r .outstanding)) e,
+            ))
+            (λ d.
+            omega (
+              arith,
+              call m,
+              figure-plus (replace (r .outstanding) member 0) (calls r member loss ranks) m,
+              figure-other (r .outstanding) member m 0 (k .0) d,
+            ));
+        called = λ m. omega (arith, call m, figure-plus (r .called) (calls r member loss ranks) m);
+        stays-live = λ m s q. figure-other (r .status) member m inDefault (k .0) (eqb-false member m q) ∙ s;
+        ordered = λ m l q t. rw (named q) allocated-ordered;
+      }
+    where
+      named : {m l : ℕ} → Default member loss ≡ Default m l → m ≡ member
+      named q = cc
+
+pub default-laws : (r : Register) → GivenBack r → (member loss : ℕ) (ranks slip : List ℕ)
+    → StepLaws r (seen (Default member loss) ranks (defaultOf r member loss ranks slip) (defaultSlip r member loss ranks slip))
+unfolding defaultOf defaultSlip check event left charged calling
+default-laws r g member loss ranks slip = go (ltb 0 (defaultRefusal r member loss ranks slip)) refl
+  where
+    refusal : ℕ
+    refusal = defaultRefusal r member loss ranks slip
+
+    go : (t : Bool) → ltb 0 refusal ≡ t
+        → StepLaws r (seen (Default member loss) ranks
+        (check t (refuse refusal r) (record { reply = Allocated (allocationOf r member loss ranks); register = settledOf r member loss ranks }))
+        (check t slip (charges r member loss ranks ++ calls r member loss ranks ++ drop (memberLimit + memberLimit) slip)))
+    go true e = refused-laws r g (Default member loss) ranks slip refusal (ltb-true 0 refusal e)
+    go false e = allocated-laws r g member loss ranks slip (admitted r member loss ranks slip (no-refusal refusal e))

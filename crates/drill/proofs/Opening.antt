@@ -1,0 +1,202 @@
+-- An accepted opening: the figures of the register are those of the sheet.
+use Prim.Native.Nat.{ℕ, zero, suc, _+_, _-_, _≤_, _<_, zero-le}
+use mathlib.Core.Path.{_≡_, refl, ap, sym, _∙_}
+use mathlib.Core.Bool.{Bool, true, false, cond, _&&_, true≢false}
+use mathlib.Core.List.{List}
+use native.Mathlib.Omega.{arith}
+use borrow.Author.Tests.{eqb-true, eqb-false, ltb-true, le-ltb, lt-ltb}
+use lib.Dec.{eqb, ltb}
+use lib.ListN.{length, getD, length-set}
+use Rattle.lists.specs.Checks.{check}
+use Rattle.lists.specs.Limits.{memberLimit, contributionFloor}
+use Rattle.lists.proofs.Checks.{check-true, check-false}
+use Rattle.lists.proofs.Places.{set-all}
+use Rattle.sheets.specs.Bytes.{recordAt}
+use Rattle.sheets.specs.Members.{memberAt, firstAt, secondAt, thirdAt}
+use Rattle.sheets.specs.Sheet.{accepted, recordCount, memberRefusalFrom, memberRefusal}
+use Rattle.sheets.proofs.Accepted.{record-in-order, rest-accepted}
+use Rattle.waterfall.specs.Register.{live, figure, replace, none, emptyRegister}
+use Rattle.waterfall.specs.Opening.{firstTranche, secondTranche, enteredOf, enteredFrom, unentered, openingRegister, openingRefusal, openedOf}
+use Rattle.waterfall.specs.declared.Register.{Register}
+use Rattle.waterfall.proofs.Figures.{figure-same, figure-other, figure-none, figure-bound, by-member}
+use Rattle.waterfall.proofs.Opening.{accepts}
+use Rattle.drill.specs.Counting.{openingAccepted, figuresFrom, inSheet, named, openingSum, openingMargin, openingContribution, sheetCap, openingTranche1, openingTranche2}
+
+-- a list of figures with those of n records put in, from record i on
+put : (List ℕ → ℕ) → ℕ → List ℕ → ℕ → List ℕ → List ℕ
+put f zero sheet i xs = xs
+put f (suc n) sheet i xs = put f n sheet (i + 1) (replace xs (memberAt (recordAt sheet i)) (f (recordAt sheet i)))
+
+-- the register's lists are such
+entered-status : (n : ℕ) (sheet : List ℕ) (i : ℕ) (r : Register) → enteredFrom n sheet i r .status ≡ put (λ s. live) n sheet i (r .status)
+unfolding enteredFrom enteredOf put
+entered-status zero sheet i r = refl
+entered-status (suc n) sheet i r = entered-status n sheet (i + 1) (enteredOf r (recordAt sheet i))
+
+entered-margin : (n : ℕ) (sheet : List ℕ) (i : ℕ) (r : Register) → enteredFrom n sheet i r .margin ≡ put firstAt n sheet i (r .margin)
+unfolding enteredFrom enteredOf put
+entered-margin zero sheet i r = refl
+entered-margin (suc n) sheet i r = entered-margin n sheet (i + 1) (enteredOf r (recordAt sheet i))
+
+entered-contribution : (n : ℕ) (sheet : List ℕ) (i : ℕ) (r : Register) → enteredFrom n sheet i r .contribution ≡ put secondAt n sheet i (r .contribution)
+unfolding enteredFrom enteredOf put
+entered-contribution zero sheet i r = refl
+entered-contribution (suc n) sheet i r = entered-contribution n sheet (i + 1) (enteredOf r (recordAt sheet i))
+
+entered-cap : (n : ℕ) (sheet : List ℕ) (i : ℕ) (r : Register) → enteredFrom n sheet i r .cap ≡ put thirdAt n sheet i (r .cap)
+unfolding enteredFrom enteredOf put
+entered-cap zero sheet i r = refl
+entered-cap (suc n) sheet i r = entered-cap n sheet (i + 1) (enteredOf r (recordAt sheet i))
+
+-- what no record names stays
+entered-rest : (n : ℕ) (sheet : List ℕ) (i : ℕ) (r : Register) → (enteredFrom n sheet i r .outstanding ≡ r .outstanding) × (enteredFrom n sheet i r .called ≡ r .called) × (enteredFrom n sheet i r .first ≡ r .first) × (enteredFrom n sheet i r .second ≡ r .second)
+unfolding enteredFrom enteredOf
+entered-rest zero sheet i r = (refl, refl, refl, refl)
+entered-rest (suc n) sheet i r = entered-rest n sheet (i + 1) (enteredOf r (recordAt sheet i))
+
+-- each figure that is put in is that of the records that name the member: members rise, so above `last` there is none yet
+put-figure : (f : List ℕ → ℕ) (m n : ℕ) (sheet : List ℕ) (i last : ℕ) (xs : List ℕ) → length xs ≡ memberLimit
+    → ((k : ℕ) → last < k → figure xs k ≡ 0) → memberRefusalFrom contributionFloor n sheet i last ≡ accepted
+    → figure (put f n sheet i xs) m ≡ figure xs m + figuresFrom f m n sheet i
+unfolding put figuresFrom
+put-figure f m zero sheet i last xs l z q = omega arith
+put-figure f m (suc n) sheet i last xs l z q =
+    let s : List ℕ = recordAt sheet i in
+    let w : ℕ = memberAt s in
+    let o = record-in-order contributionFloor n sheet i last q in
+    let next : (k : ℕ) → w < k → figure (replace xs w (f s)) k ≡ 0 =
+    λ k h. figure-other xs w k (f s) (o .member-least) (λ e. omega arith) ∙ z k (omega (arith, o .rises)) in
+    let entered : figure (replace xs w (f s)) m ≡ figure xs m + cond (eqb w m) (f s) 0 =
+    by-member (λ b. figure (replace xs w (f s)) m ≡ figure xs m + cond b (f s) 0) w m
+    (λ e. omega (arith, figure-same xs w m (f s) (o .member-least) (omega (arith, o .member-most)) e, z w (o .rises), ap (figure xs) e))
+    (λ d. omega (arith, figure-other xs w m (f s) (o .member-least) d)) in
+    omega (
+      arith,
+      entered,
+      put-figure f m n sheet (i + 1) w (replace xs w (f s)) (length-set xs (w - 1) (f s) ∙ l) next (rest-accepted contributionFloor n sheet i last q),
+    )
+
+-- a mark is 0 or 1
+put-mark : (n : ℕ) (sheet : List ℕ) (i : ℕ) (xs : List ℕ) → ((k : ℕ) → getD xs k 0 ≤ live) → (k : ℕ) → getD (put (λ s. live) n sheet i xs) k 0 ≤ live
+unfolding put
+put-mark zero sheet i xs h k = h k
+put-mark (suc n) sheet i xs h k =
+    put-mark n sheet (i + 1) (replace xs (memberAt (recordAt sheet i)) live)
+    (set-all (λ j x. x ≤ live) xs (memberAt (recordAt sheet i) - 1) live h (omega arith)) k
+
+-- an opening that is accepted --------------------------------------------------------------
+
+module _ (sheet : List ℕ) (g : ℕ) (ok : openedOf sheet g .refusal .number ≡ 0) where
+  abbrev opened : Register
+  opened = openedOf sheet g .register
+
+  is-opening : opened ≡ openingRegister sheet g
+  unfolding openedOf
+  is-opening = sym (check-false emptyRegister (openingRegister sheet g) (ltb 0 (openingRefusal sheet g .number)) (le-ltb 0 (openingRefusal sheet g .number) (omega (arith, ok))) refl)
+
+  all-accepted : memberRefusalFrom contributionFloor (recordCount sheet) sheet 0 0 ≡ accepted
+  unfolding memberRefusal openedOf
+  all-accepted = accepts sheet g ok .records-accepted
+
+  sheet-figure : (f : List ℕ → ℕ) (m : ℕ) → figure (put f (recordCount sheet) sheet 0 none) m ≡ inSheet f sheet m
+  sheet-figure f m =
+      omega (
+        arith,
+        figure-none m,
+        put-figure f m (recordCount sheet) sheet 0 0 none refl (λ k h. figure-none k) all-accepted,
+      )
+
+  pub margin-opened : (m : ℕ) → figure (opened .margin) m ≡ inSheet firstAt sheet m
+  unfolding openingRegister
+  margin-opened m =
+      ap (λ (r : Register). figure (r .margin) m) is-opening
+      ∙ ap (λ (xs : List ℕ). figure xs m) (entered-margin (recordCount sheet) sheet 0 (unentered g)) ∙ sheet-figure firstAt m
+
+  pub contribution-opened : (m : ℕ) → figure (opened .contribution) m ≡ inSheet secondAt sheet m
+  unfolding openingRegister
+  contribution-opened m =
+      ap (λ (r : Register). figure (r .contribution) m) is-opening
+      ∙ ap (λ (xs : List ℕ). figure xs m) (entered-contribution (recordCount sheet) sheet 0 (unentered g)) ∙ sheet-figure secondAt m
+
+  pub cap-opened : (m : ℕ) → figure (opened .cap) m ≡ inSheet thirdAt sheet m
+  unfolding openingRegister
+  cap-opened m =
+      ap (λ (r : Register). figure (r .cap) m) is-opening
+      ∙ ap (λ (xs : List ℕ). figure xs m) (entered-cap (recordCount sheet) sheet 0 (unentered g)) ∙ sheet-figure thirdAt m
+
+  -- who is named is live
+  pub live-opened : (m : ℕ) → named sheet m ≡ true → figure (opened .status) m ≡ live
+  unfolding openingRegister
+  live-opened m n =
+      let e : figure (opened .status) m ≡ figure (put (λ s. live) (recordCount sheet) sheet 0 none) m =
+      ap (λ (r : Register). figure (r .status) m) is-opening
+      ∙ ap (λ (xs : List ℕ). figure xs m) (entered-status (recordCount sheet) sheet 0 (unentered g)) in
+      omega (
+        arith,
+        e,
+        sheet-figure (λ s. live) m,
+        ltb-true 0 (inSheet (λ s. 1) sheet m) n,
+        figure-bound (put (λ s. live) (recordCount sheet) sheet 0 none) live (put-mark (recordCount sheet) sheet 0 none (λ k. omega (arith, figure-none (suc k)))) m,
+      )
+
+  pub rest-opened : (opened .outstanding ≡ none) × (opened .called ≡ none) × (opened .first ≡ firstTranche g) × (opened .second ≡ secondTranche g)
+  unfolding openingRegister
+  rest-opened =
+      let e = entered-rest (recordCount sheet) sheet 0 (unentered g) in (
+        ap (λ (r : Register). r .outstanding) is-opening ∙ e .0,
+        ap (λ (r : Register). r .called) is-opening ∙ e .1,
+        ap (λ (r : Register). r .first) is-opening ∙ e .2,
+        ap (λ (r : Register). r .second) is-opening ∙ e .3,
+      )
+
+-- any opening ------------------------------------------------------------------------------
+
+-- the register that an opening gives back, as statement 3 counts the opening
+pub record Opens (sheet : List ℕ) (g : ℕ) : Type 0 where
+  pub margin : (m : ℕ) → figure (openedOf sheet g .register .margin) m ≡ openingMargin sheet g m
+  pub contribution : (m : ℕ) → figure (openedOf sheet g .register .contribution) m ≡ openingContribution sheet g m
+  pub cap : (m : ℕ) → figure (openedOf sheet g .register .cap) m ≡ sheetCap sheet g m
+  pub tranche1 : openedOf sheet g .register .first ≡ openingTranche1 sheet g
+  pub tranche2 : openedOf sheet g .register .second ≡ openingTranche2 sheet g
+  pub outstanding : (m : ℕ) → figure (openedOf sheet g .register .outstanding) m ≡ 0
+  pub called : (m : ℕ) → figure (openedOf sheet g .register .called) m ≡ 0
+  pub status : (m : ℕ) → openingAccepted sheet g ≡ true → named sheet m ≡ true → figure (openedOf sheet g .register .status) m ≡ live
+
+-- after a refusal the register is the empty one
+is-empty : (sheet : List ℕ) (g : ℕ) → (openedOf sheet g .refusal .number ≡ 0 → ⊥) → openedOf sheet g .register ≡ emptyRegister
+unfolding openedOf
+is-empty sheet g n =
+    sym (check-true emptyRegister (openingRegister sheet g) (ltb 0 (openingRefusal sheet g .number)) (lt-ltb 0 (openingRefusal sheet g .number) (omega (arith, n))) refl)
+
+pub opens : (sheet : List ℕ) (g : ℕ) → Opens sheet g
+opens sheet g = go (openingAccepted sheet g) refl
+  where
+    sum : (x y : ℕ) (b : Bool) → openingAccepted sheet g ≡ b → x ≡ cond b y 0 → x ≡ openingSum sheet g y
+    sum x y b e q = q ∙ sym (ap (λ (t : Bool). cond t y 0) e)
+
+    go : (b : Bool) → openingAccepted sheet g ≡ b → Opens sheet g
+    go true e =
+        let ok : openedOf sheet g .refusal .number ≡ 0 = eqb-true _ _ e in
+        let rest = rest-opened sheet g ok in
+        record {
+          margin = λ m. sum _ _ true e (margin-opened sheet g ok m);
+          contribution = λ m. sum _ _ true e (contribution-opened sheet g ok m);
+          cap = λ m. sum _ _ true e (cap-opened sheet g ok m);
+          tranche1 = sum _ _ true e (rest .2);
+          tranche2 = sum _ _ true e (rest .3);
+          outstanding = λ m. ap (λ (xs : List ℕ). figure xs m) (rest .0) ∙ figure-none m;
+          called = λ m. ap (λ (xs : List ℕ). figure xs m) (rest .1) ∙ figure-none m;
+          status = λ m a n. live-opened sheet g ok m n;
+        }
+    go false e =
+        let empty = is-empty sheet g (eqb-false _ _ e) in
+        record {
+          margin = λ m. sum _ (inSheet firstAt sheet m) false e (ap (λ (r : Register). figure (r .margin) m) empty ∙ figure-none m);
+          contribution = λ m. sum _ (inSheet secondAt sheet m) false e (ap (λ (r : Register). figure (r .contribution) m) empty ∙ figure-none m);
+          cap = λ m. sum _ (inSheet thirdAt sheet m) false e (ap (λ (r : Register). figure (r .cap) m) empty ∙ figure-none m);
+          tranche1 = sum _ (firstTranche g) false e (ap (λ (r : Register). r .first) empty);
+          tranche2 = sum _ (secondTranche g) false e (ap (λ (r : Register). r .second) empty);
+          outstanding = λ m. ap (λ (r : Register). figure (r .outstanding) m) empty ∙ figure-none m;
+          called = λ m. ap (λ (r : Register). figure (r .called) m) empty ∙ figure-none m;
+          status = λ m a n. absurd (true≢false (sym a ∙ e));
+        }

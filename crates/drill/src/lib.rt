@@ -1,0 +1,41 @@
+// The calls of a drill: document 01, "Declaring a default" and "What statement 3 counts".
+pub mod in_place;
+
+use waterfall::Outcome;
+use waterfall::Register;
+ghost use mathlib.Core.Path.{_≡_};
+ghost use Rattle.waterfall.specs.Register.{GivenBack};
+ghost use Rattle.drill.specs.Drill.{appliedOf, slipLeft};
+
+// "A drill call is one of four, each with its own figures." Ranks and slip of a default stand beside it.
+pub enum DrillCall {
+    Default { member: u64, loss: u64 },
+    Payment { member: u64, amount: u64 },
+    Replenishment { member: u64, amount: u64 },
+    Close,
+}
+
+// One call on a register. Ranks and slip are a default's; the other calls neither read nor write them.
+pub fn apply(register: Register, call: DrillCall, ranks: &[u8], slip: &mut [u64]) -> Outcome
+    requires { ⌜ GivenBack register ⌝ }
+    ensures { λ r. ⌜ r ≡ appliedOf register call (now (ranks .entry)) (now (slip .entry)) ⌝ }
+    ensures { λ _. ⌜ now (slip .exit) ≡ slipLeft register call (now (ranks .entry)) (now (slip .entry)) ⌝ }
+    ensures { λ r. ⌜ GivenBack (r .register) ⌝ }
+{
+    match call {
+        DrillCall::Default { member, loss } => waterfall::declaration::declare(
+            register,
+            member,
+            loss,
+            ranks,
+            slip,
+        ),
+        DrillCall::Payment { member, amount } => waterfall::payment::pay(register, member, amount),
+        DrillCall::Replenishment { member, amount } => waterfall::replenishment::replenish(
+            register,
+            member,
+            amount,
+        ),
+        DrillCall::Close => waterfall::close::close(register),
+    }
+}

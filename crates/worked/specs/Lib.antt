@@ -1,0 +1,2 @@
+-- Document 01's worked examples as one fact.
+pub mod Worked

@@ -1,0 +1,21 @@
+// What a console host in C calls: see host.h.
+ghost use mathlib.Core.Path.{_≡_};
+ghost use Rattle.sizing.specs.Review.{reviewDue};
+ghost use Rattle.waterfall.specs.Opening.{openedOf};
+
+// Whether a review is triggered: 100C is more than 80A, for any two numbers.
+#[no_mangle]
+pub extern "C" fn review_due(cover: u64, target: u64) -> bool
+    ensures { λ r. ⌜ r ≡ reviewDue cover target ⌝ }
+{
+    sizing::review_due(cover, target)
+}
+
+// "For a register sheet and G it is given the refusal number alone, 0 if accepted."
+#[no_mangle]
+pub extern "C" fn register_refusal(sheet: &[u8], own: u64) -> u8
+    ensures { λ r. ⌜ r ≡ openedOf (now (sheet .entry)) own .refusal .number ⌝ }
+{
+    let opened = waterfall::sheet::open(sheet, own);
+    opened.refusal.number
+}

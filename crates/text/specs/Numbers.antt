@@ -1,0 +1,58 @@
+-- "Numbers are decimal digits. A number that does not fit 64 bits is not a number."
+use Prim.Native.Nat.{ℕ, zero, suc, _+_, _-_, _*_, _/_, _%_, _^_}
+use mathlib.Core.Path.{_≡_, refl}
+use mathlib.Core.Bool.{Bool, true, false, not, _&&_}
+use mathlib.Core.List.{List, [], _∷_, _++_}
+use lib.Dec.{leb, ltb}
+use Rattle.lists.specs.Checks.{check}
+use Rattle.text.specs.declared.numbers.Number.{Number}
+use Rattle.text.specs.declared.numbers.Number.the-variants.{Value, NotANumber}
+
+abbrev pub isDigit : ℕ → Bool
+isDigit b = leb 48 b && leb b 57
+
+abbrev pub allDigits : List ℕ → Bool
+allDigits [] = true
+allDigits (b ∷ s) = isDigit b && allDigits s
+
+abbrev pub isEmpty : List ℕ → Bool
+isEmpty [] = true
+isEmpty (b ∷ s) = false
+
+-- the value of the digits v with the digits s behind them; of s alone it is `valueFrom 0 s`
+abbrev pub valueFrom : ℕ → List ℕ → ℕ
+valueFrom v [] = v
+valueFrom v (b ∷ s) = valueFrom (v * 10 + (b - 48)) s
+
+abbrev pub isNumber : List ℕ → Bool
+isNumber s = not (isEmpty s) && allDigits s && ltb (valueFrom 0 s) (2 ^ 64)
+
+unfoldable pub readOf : List ℕ → Number
+readOf s = check (isNumber s) (Value (valueFrom 0 s)) NotANumber
+
+-- the digits of n, with no zero in front; `most` bounds how many there are
+abbrev pub digitsOf : ℕ → ℕ → List ℕ
+digitsOf zero n = []
+digitsOf (suc most) n = check (ltb n 10) ((48 + n) ∷ []) (digitsOf most (n / 10) ++ ((48 + n % 10) ∷ []))
+
+-- a number of 64 bits has at most 20 digits
+unfoldable pub decimalOf : ℕ → List ℕ
+decimalOf n = digitsOf 20 n
+
+-- 0 and 10 as they are printed
+zero-printed : decimalOf 0 ≡ 48 ∷ []
+unfolding decimalOf check
+zero-printed = refl
+
+ten-printed : decimalOf 10 ≡ 49 ∷ 48 ∷ []
+unfolding decimalOf check
+ten-printed = refl
+
+-- "007" is 7, "-1" is no number
+seven-read : readOf (48 ∷ 48 ∷ 55 ∷ []) ≡ Value 7
+unfolding readOf check
+seven-read = refl
+
+minus-read : readOf (45 ∷ 49 ∷ []) ≡ NotANumber
+unfolding readOf check
+minus-read = refl

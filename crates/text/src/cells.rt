@@ -1,0 +1,82 @@
+// A line of a sheet: its content, its cells, and what a cell says.
+use crate::numbers::Number;
+use crate::numbers::read_number;
+use crate::words::find_byte;
+use crate::words::part;
+use crate::words::skip_spaces;
+ghost use mathlib.Core.Path.{_≡_};
+ghost use Prim.Native.Nat.{_≤_};
+ghost use lib.ListN.{length, take};
+ghost use Rattle.text.specs.Cells.{endOf, contentOf, trimBack, trimmed, fieldOf};
+
+pub enum Field {
+    Value(u64),
+    Bad,
+}
+
+// How long a line is without a CR before its end.
+fn line_end(line: &[u8]) -> usize
+    ensures { λ r. ⌜ (r ≡ endOf (now (line .entry))) × (r ≤ length (now (line .entry))) ⌝ }
+{
+    let n = line.len();
+    if n == 0 {
+        return 0;
+    }
+    if line[n - 1] == 13 {
+        return n - 1;
+    }
+    n
+}
+
+// The line without its CR and without its comment.
+pub fn content(line: &[u8]) -> &[u8]
+    ensures { λ r. ⌜ now r ≡ contentOf (now (line .entry)) ⌝ }
+{
+    let n = line_end(line);
+    let to = find_byte(line, 0, n, 35);
+    part(line, 0, to)
+}
+
+// How long s is without the spaces at its end.
+fn kept(s: &[u8]) -> usize
+    ensures { λ r. ⌜ (r ≤ length (now (s .entry))) × (take r (now (s .entry)) ≡ trimBack (now (s .entry))) ⌝ }
+{
+    let mut n = s.len();
+    while 0 < n {
+        if s[n - 1] != 32 {
+            return n;
+        }
+        n -= 1;
+    }
+    n
+}
+
+// What is left without the spaces around it.
+pub fn trim(s: &[u8]) -> &[u8]
+    ensures { λ r. ⌜ now r ≡ trimmed (now (s .entry)) ⌝ }
+{
+    let from = skip_spaces(s, 0);
+    let rest = part(s, from, s.len());
+    let n = kept(rest);
+    part(rest, 0, n)
+}
+
+// What a cell says: `blank` where it is blank, its number where that is below the limit.
+pub fn read_field(s: &[u8], blank: u64, limit: u64) -> Field
+    ensures { λ r. ⌜ r ≡ fieldOf blank limit (now (s .entry)) ⌝ }
+{
+    let word = trim(s);
+    if word.len() == 0 {
+        return Field::Value(blank);
+    }
+    match read_number(word) {
+        Number::Value(v) => {
+            if v < limit {
+                Field::Value(v)
+            } else {
+                Field::Bad
+            }
+        }
+        Number::NotANumber => Field::Bad,
+    }
+}

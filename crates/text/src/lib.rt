@@ -1,0 +1,31 @@
+// What the console programs read and print: numbers, words, lines and the cells of a sheet's lines, over slices.
+mod bytes;
+mod cells;
+mod numbers;
+mod ranks;
+mod rows;
+mod words;
+
+pub use bytes::append;
+pub use bytes::put_bytes;
+pub use bytes::put_text;
+pub use numbers::Number;
+pub use numbers::print_number;
+pub use numbers::put_labelled;
+pub use numbers::read_number;
+pub use ranks::Rank;
+pub use ranks::read_rank;
+pub use rows::Kind;
+pub use rows::Named;
+pub use rows::Row;
+pub use rows::kind_named;
+pub use rows::put_row;
+pub use rows::row_of_line;
+pub use words::Word;
+pub use words::find_byte;
+pub use words::find_colon;
+pub use words::find_newline;
+pub use words::is_word;
+pub use words::next_word;
+pub use words::part;
+pub use words::same;

@@ -1,0 +1,130 @@
+//! What the benchmarks repeat. Each case gives a checksum of its answers, which the engine's must equal.
+
+use crate::bench_files::{register_sheet, OWN};
+use crate::engine::{size, DefaultAnswer, Register, DEFAULT_SLIP, MEMBERS};
+use std::ffi::OsString;
+use std::fs;
+use std::hint::black_box;
+use std::io;
+
+/// The cases by name; `sizing` reads its two sheets from files.
+pub const CASES: &str = "distinct, tied, calls, sizing STRESS SHARES";
+
+const DEFAULTER: u64 = 17;
+const PREVAILING: u64 = 70_000_000;
+const AVAILABLE: u64 = 5_000_000;
+
+/// Runs one case so many times and gives the checksum; none where there is no such case.
+pub fn bench(case: &str, repetitions: u64, files: &[OsString]) -> io::Result<Option<u64>> {
+    Ok(match (case, files) {
+        ("distinct" | "tied" | "calls", []) => {
+            Some(repeat_default(&DefaultCase::named(case), repetitions))
+        }
+        ("sizing", [stress, shares]) => {
+            let (stress, shares) = (fs::read(stress)?, fs::read(shares)?);
+            Some(repeat_sizing(&stress, &shares, repetitions))
+        }
+        _ => None,
+    })
+}
+
+/// Folds one number into a checksum.
+fn fold(sum: u64, number: u64) -> u64 {
+    sum.rotate_left(7).wrapping_add(number)
+}
+
+/// One default of a register of 64 members.
+struct DefaultCase {
+    register: Register,
+    loss: u64,
+    ranks: [u8; MEMBERS],
+}
+
+impl DefaultCase {
+    /// `distinct` and `tied` end inside layer 4, `calls` inside layer 6.
+    fn named(case: &str) -> Self {
+        let register = Register::open(&register_sheet(), OWN).expect("a good sheet");
+        let place = DEFAULTER as usize - 1;
+        let all = |column: &[u32; MEMBERS]| column.iter().map(|&a| a as u64).sum::<u64>();
+        let contributions = register.margin[place] as u64 + all(&register.contribution);
+        let to_layer_4 = contributions + register.tranche1;
+        let loss = if case == "calls" {
+            to_layer_4 + register.tranche2 + all(&register.cap) / 2
+        } else {
+            to_layer_4 - 777_777
+        };
+        let mut ranks = [9; MEMBERS];
+        if case != "tied" {
+            for (place, rank) in ranks.iter_mut().enumerate() {
+                *rank = (place * 29 % MEMBERS) as u8 + 1;
+            }
+        }
+        DefaultCase {
+            register,
+            loss,
+            ranks,
+        }
+    }
+}
+
+fn fold_default(sum: u64, answer: &DefaultAnswer, slip: &[u64; DEFAULT_SLIP]) -> u64 {
+    let sum = answer.layers.iter().fold(sum, |sum, &l| fold(sum, l));
+    let sum = fold(fold(sum, answer.fallen), answer.short);
+    // One charge and one call stand for the slip, so that folding stays cheap.
+    let slip = black_box(slip);
+    fold(fold(sum, slip[MEMBERS - 1]), slip[DEFAULT_SLIP - 1])
+}
+
+/// The loss rises a little with the turn, so that no turn is like the one before.
+fn repeat_default(case: &DefaultCase, repetitions: u64) -> u64 {
+    let mut slip = [0; DEFAULT_SLIP];
+    (0..repetitions).fold(0, |sum, turn| {
+        let mut register = black_box(&case.register).clone();
+        let answer = register
+            .default(DEFAULTER, case.loss + turn % 8, &case.ranks, &mut slip)
+            .expect("a good default");
+        black_box(&register);
+        fold_default(sum, &answer, &slip)
+    })
+}
+
+fn repeat_sizing(stress: &[u8], shares: &[u8], repetitions: u64) -> u64 {
+    let mut slip = [0; MEMBERS];
+    (0..repetitions).fold(0, |sum, turn| {
+        let (stress, shares) = (black_box(stress), black_box(shares));
+        let prevailing = PREVAILING + turn % 8;
+        let s = size(stress, shares, prevailing, AVAILABLE, &mut slip).expect("good sheets");
+        let figures = [s.c, s.w, s.a, s.b, s.b1, s.own, s.d];
+        let numbers = figures.iter().chain(&slip);
+        numbers.fold(sum, |sum, &number| fold(sum, number))
+    })
+}
+
+#[cfg(test)]
+mod tests {
+    use super::*;
+
+    /// The engine's program has these two losses as numbers.
+    #[test]
+    fn losses() {
+        assert_eq!(DefaultCase::named("distinct").loss, 64_411_573);
+        assert_eq!(DefaultCase::named("calls").loss, 82_012_632);
+    }
+
+    #[test]
+    fn layers_that_the_cases_end_in() {
+        let layers = |case| {
+            let case = DefaultCase::named(case);
+            let mut slip = [0; DEFAULT_SLIP];
+            let answer = { case.register }.default(DEFAULTER, case.loss, &case.ranks, &mut slip);
+            answer
+                .expect("a good default")
+                .layers
+                .map(|layer| layer > 0)
+        };
+        for case in ["distinct", "tied"] {
+            assert_eq!(layers(case), [true, true, true, true, false, false]);
+        }
+        assert_eq!(layers("calls"), [true; 6]);
+    }
+}

@@ -1,0 +1,127 @@
+//! What the expected answers reached, for a reader who wants to know how deep a run went.
+
+use crate::ledger::Tally;
+
+#[derive(Clone, Default)]
+pub struct Coverage {
+    refusals: [u64; 20],
+    layers: [u64; 6],
+    fallen: u64,
+    shortfalls: u64,
+    all_layers: u64,
+    openings: u64,
+    sizings: u64,
+    unreadable: u64,
+    tally: Tally,
+}
+
+impl Coverage {
+    /// Adds what one expected output reached.
+    pub fn add_output(&mut self, output: &str) {
+        let mut reached = [false; 6];
+        for line in output.lines() {
+            let mut words = line.strip_prefix("opening ").unwrap_or(line).split(' ');
+            match (words.next(), words.next()) {
+                (Some("refused"), Some(number)) => self.add_refusal(number),
+                (Some("accepted"), Some("fallen")) => self.add_default(line, &mut reached),
+                (Some("accepted"), Some("C")) => self.sizings += 1,
+                (Some("unreadable"), _) => self.unreadable += 1,
+                _ => self.openings += (line == "opening accepted") as u64,
+            }
+        }
+        self.all_layers += reached.iter().all(|&r| r) as u64;
+    }
+
+    pub fn add_tally(&mut self, tally: Tally) {
+        self.tally.defaults += tally.defaults;
+        self.tally.payments += tally.payments;
+        self.tally.replenishments += tally.replenishments;
+        self.tally.closes += tally.closes;
+    }
+
+    pub fn merge(&mut self, other: &Coverage) {
+        let pairs = self.refusals.iter_mut().zip(other.refusals);
+        let layers = self.layers.iter_mut().zip(other.layers);
+        pairs.chain(layers).for_each(|(sum, more)| *sum += more);
+        self.fallen += other.fallen;
+        self.shortfalls += other.shortfalls;
+        self.all_layers += other.all_layers;
+        self.openings += other.openings;
+        self.sizings += other.sizings;
+        self.unreadable += other.unreadable;
+        self.add_tally(other.tally);
+    }
+
+    fn add_refusal(&mut self, number: &str) {
+        if let Ok(number) = number.parse::<usize>() {
+            self.refusals[number] += 1;
+        }
+    }
+
+    fn add_default(&mut self, line: &str, reached: &mut [bool; 6]) {
+        let numbers: Vec<u64> = line.split(' ').filter_map(|w| w.parse().ok()).collect();
+        self.fallen += (numbers[0] > 0) as u64;
+        self.shortfalls += (numbers[7] > 0) as u64;
+        for (layer, &total) in numbers[1..7].iter().enumerate() {
+            self.layers[layer] += (total > 0) as u64;
+            reached[layer] |= total > 0;
+        }
+    }
+
+    pub fn print(&self) {
+        println!("refusal  times");
+        for number in 1..=19 {
+            println!("{number:>7}  {}{}", self.refusals[number], remark(number));
+        }
+        println!("layer    accepted defaults that drew on it");
+        for (layer, times) in self.layers.iter().enumerate() {
+            println!("{:>7}  {times}", layer + 1);
+        }
+        println!("  short  {}", self.shortfalls);
+        println!(" fallen  {}", self.fallen);
+        println!("drills that drew on all six layers: {}", self.all_layers);
+        let t = &self.tally;
+        println!(
+            "accepted: {} openings, {} defaults, {} payments, {} replenishments, {} closes, {} sizings",
+            self.openings, t.defaults, t.payments, t.replenishments, t.closes, self.sizings
+        );
+        println!("unreadable lines: {}", self.unreadable);
+    }
+}
+
+/// Refusals that no program can be brought to print.
+fn remark(number: usize) -> &'static str {
+    match number {
+        3 | 14 => "  (the programs always hand whole slips and ranks)",
+        19 => "  (no part split is above its total)",
+        _ => "",
+    }
+}
+
+#[cfg(test)]
+mod tests {
+    use super::*;
+    use crate::generate::{drill, sizing};
+    use crate::text::{run_drill, run_sizing};
+
+    #[test]
+    fn the_generator_reaches_all_that_can_be_printed() {
+        let mut coverage = Coverage::default();
+        for seed in 0..1_000 {
+            let case = drill(seed);
+            let mut out = Vec::new();
+            run_drill(&case.sheet, case.own, &case.calls[..], &mut out).unwrap();
+            coverage.add_output(&String::from_utf8(out).unwrap());
+            let case = sizing(seed);
+            let out = run_sizing(&case.stress, &case.shares, case.prevailing, case.available);
+            coverage.add_output(&String::from_utf8(out).unwrap());
+        }
+        for number in 1..=19 {
+            let reached = coverage.refusals[number] > 0;
+            assert_eq!(reached, remark(number).is_empty(), "refusal {number}");
+        }
+        assert!(coverage.layers.iter().all(|&times| times > 100));
+        assert!(coverage.shortfalls > 100 && coverage.fallen > 100);
+        assert!(coverage.all_layers > 100 && coverage.sizings > 100);
+    }
+}

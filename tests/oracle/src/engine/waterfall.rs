@@ -1,0 +1,244 @@
+//! Declaring a default: the six layers.
+
+use super::register::Register;
+use super::split::Split;
+use super::{Places, DEFAULT_SLIP, MAX_SUM, MEMBERS};
+
+/// The answer of an accepted default.
+#[derive(Clone, Copy, Debug, Default, PartialEq, Eq)]
+pub struct DefaultAnswer {
+    pub fallen: u64,
+    pub layers: [u64; 6],
+    pub short: u64,
+}
+
+/// Members sorted by juniorisation rank: for each rank the bits of its members.
+struct Ranked {
+    members: [u64; MEMBERS],
+    ranks: u64,
+}
+
+impl Ranked {
+    /// Reads the ranks of `who` only; refusal 15.
+    #[inline]
+    fn sort(who: Places, ranks: &[u8; MEMBERS]) -> Result<Self, u8> {
+        let mut sorted = Ranked {
+            members: [0; MEMBERS],
+            ranks: 0,
+        };
+        for place in who {
+            let rank = ranks[place].wrapping_sub(1) as usize;
+            let members = sorted.members.get_mut(rank).ok_or(15)?;
+            *members |= 1 << place;
+            sorted.ranks |= 1 << rank;
+        }
+        Ok(sorted)
+    }
+
+    /// Takes out the most junior rank not yet charged.
+    #[inline]
+    fn next(&mut self) -> Option<Places> {
+        if self.ranks == 0 {
+            return None;
+        }
+        let rank = 63 - self.ranks.leading_zeros();
+        self.ranks ^= 1 << rank;
+        Some(Places(self.members[rank as usize]))
+    }
+}
+
+/// Takes from a pocket all it has or all that is left to place.
+fn draw(pocket: &mut u64, left: &mut u64) -> u64 {
+    let taken = (*pocket).min(*left);
+    *pocket -= taken;
+    *left -= taken;
+    taken
+}
+
+fn draw_amount(pocket: &mut u32, left: &mut u64) -> u64 {
+    let mut sum = *pocket as u64;
+    let taken = draw(&mut sum, left);
+    *pocket = sum as u32;
+    taken
+}
+
+impl Register {
+    /// Declares a default; refusals 11 to 15 leave register and slip untouched.
+    ///
+    /// Refusal 19 cannot arise: the part split is never above the total of its weights.
+    pub fn default(
+        &mut self,
+        member: u64,
+        loss: u64,
+        ranks: &[u8],
+        slip: &mut [u64],
+    ) -> Result<DefaultAnswer, u8> {
+        let place = self.live_place(member)?;
+        if loss > MAX_SUM {
+            return Err(13);
+        }
+        let ranks: &[u8; MEMBERS] = ranks.try_into().map_err(|_| 14)?;
+        let slip = slip.get_mut(..DEFAULT_SLIP).ok_or(14)?;
+        let others = Places(self.live & !(1 << place));
+        let mut ranked = Ranked::sort(others, ranks)?;
+
+        slip.fill(0);
+        let (charges, calls) = slip.split_at_mut(MEMBERS);
+        let fallen = std::mem::take(&mut self.outstanding[place]) as u64;
+        let mut left = loss + fallen;
+        self.live = others.0;
+        let layers = [
+            draw_amount(&mut self.margin[place], &mut left),
+            draw_amount(&mut self.contribution[place], &mut left),
+            draw(&mut self.tranche1, &mut left),
+            self.charge(&mut ranked, &mut left, charges),
+            draw(&mut self.tranche2, &mut left),
+            self.call(others, &mut left, calls),
+        ];
+        Ok(DefaultAnswer {
+            fallen,
+            layers,
+            short: left,
+        })
+    }
+
+    /// Layer 4: the contributions of the others, the most junior rank first.
+    fn charge(&mut self, ranked: &mut Ranked, left: &mut u64, charges: &mut [u64]) -> u64 {
+        let before = *left;
+        while *left > 0 {
+            let Some(who) = ranked.next() else { break };
+            let total = Register::sum(who, &self.contribution);
+            let part = total.min(*left);
+            let mut split = Split::new(part, total);
+            for place in who {
+                let share = split.share(self.contribution[place] as u64);
+                self.contribution[place] -= share as u32;
+                charges[place] = share;
+            }
+            *left -= part;
+        }
+        before - *left
+    }
+
+    /// Layer 6: calls on the others over the rest of their caps.
+    fn call(&mut self, others: Places, left: &mut u64, calls: &mut [u64]) -> u64 {
+        if *left == 0 {
+            return 0;
+        }
+        let total = Register::sum(others, &self.cap) - Register::sum(others, &self.called);
+        let part = total.min(*left);
+        let mut split = Split::new(part, total);
+        for place in others {
+            let share = split.share((self.cap[place] - self.called[place]) as u64);
+            self.called[place] += share as u32;
+            self.outstanding[place] += share as u32;
+            calls[place] = share;
+        }
+        *left -= part;
+        part
+    }
+}
+
+#[cfg(test)]
+mod tests {
+    use super::*;
+    use crate::engine::MISSING_RANK;
+    use crate::generate::{example_register, member_record};
+
+    fn example() -> Register {
+        Register::open(&example_register(), 22_000).unwrap()
+    }
+
+    fn ranks(given: &[(usize, u8)]) -> [u8; MEMBERS] {
+        let mut ranks = [MISSING_RANK; MEMBERS];
+        for &(member, rank) in given {
+            ranks[member - 1] = rank;
+        }
+        ranks
+    }
+
+    #[test]
+    fn tranches_of_22() {
+        let register = Register::open(&member_record(1, [0, 10_000, 0]), 22).unwrap();
+        assert_eq!((register.tranche1, register.tranche2), (13, 9));
+    }
+
+    #[test]
+    fn three_defaults() {
+        let mut register = example();
+        let mut slip = [7; 130];
+        let first = register.default(1, 100_000, &ranks(&[(2, 1), (3, 2), (4, 2)]), &mut slip);
+        let first = first.unwrap();
+        assert_eq!(first.layers, [50_000, 20_000, 13_200, 16_800, 0, 0]);
+        assert_eq!((first.fallen, first.short), (0, 0));
+        assert_eq!(slip[..4], [0, 0, 5_600, 11_200]);
+        assert_eq!(slip[128..], [7, 7]);
+
+        let second = register.default(3, 60_000, &ranks(&[(2, 1), (4, 1)]), &mut slip);
+        let second = second.unwrap();
+        assert_eq!(second.layers, [0, 4_400, 0, 38_800, 8_800, 8_000]);
+        assert_eq!((second.fallen, second.short), (0, 0));
+        assert_eq!(slip[64..68], [0, 8_000, 0, 0]);
+
+        let third = register
+            .default(2, 0, &ranks(&[(4, 1)]), &mut slip)
+            .unwrap();
+        assert_eq!((third.fallen, third.short), (8_000, 8_000));
+        assert_eq!(third.layers, [0; 6]);
+        assert_eq!(register.close(), Ok(()));
+    }
+
+    #[test]
+    fn blank_ranks() {
+        let mut slip = [0; DEFAULT_SLIP];
+        let for_four = ranks(&[(2, 1), (3, 2)]);
+        let before = example();
+        let mut register = example();
+        assert_eq!(register.default(1, 100_000, &for_four, &mut slip), Err(15));
+        assert_eq!((register, slip), (before, [0; DEFAULT_SLIP]));
+        let for_one = ranks(&[(1, 255), (2, 1), (3, 2), (4, 2)]);
+        assert!(example().default(1, 100_000, &for_one, &mut slip).is_ok());
+    }
+
+    #[test]
+    fn caps_at_the_limit() {
+        assert!(Register::open(&member_record(1, [0, 10_000, 400_000_000]), 0).is_ok());
+        let refusal = Register::open(&member_record(1, [0, 10_000, 400_000_001]), 0).unwrap_err();
+        assert_eq!((refusal.number, refusal.record), (6, 1));
+    }
+
+    #[test]
+    fn refusals_in_number_order() {
+        let mut slip = [0; DEFAULT_SLIP];
+        let mut register = example();
+        let good = ranks(&[(2, 1), (3, 2), (4, 2)]);
+        assert_eq!(register.default(5, MAX_SUM + 1, &[], &mut []), Err(11));
+        assert_eq!(register.default(1, MAX_SUM + 1, &[], &mut []), Err(13));
+        assert_eq!(register.default(1, MAX_SUM, &good[1..], &mut slip), Err(14));
+        assert_eq!(register.default(1, 0, &[0; 64], &mut slip[1..]), Err(14));
+        assert_eq!(register.default(1, 0, &[0; 64], &mut slip), Err(15));
+        assert_eq!(register, example());
+        assert!(register.default(1, 0, &good, &mut slip).is_ok());
+        assert_eq!(register.default(1, MAX_SUM + 1, &[], &mut []), Err(12));
+    }
+
+    #[test]
+    fn a_payment_does_not_reopen_the_cap() {
+        let mut register = example();
+        let mut slip = [0; DEFAULT_SLIP];
+        let everything = 50_000 + 20_000 + 22_000 + 60_000 + 20_000;
+        let answer = register.default(1, everything, &[1; 64], &mut slip);
+        assert_eq!(answer.unwrap().layers[5], 20_000);
+        assert_eq!(register.payment(2, 15_001), Err(16));
+        assert_eq!(register.payment(2, 0), Err(16));
+        assert_eq!(register.payment(2, 15_000), Ok(()));
+        assert_eq!(register.close(), Err(18));
+        assert_eq!(register.replenishment(2, 30_001), Err(17));
+        assert_eq!(register.replenishment(2, u64::MAX), Err(17));
+        assert_eq!(register.replenishment(2, 0), Err(17));
+        let second = register.default(3, 10, &[1; 64], &mut slip).unwrap();
+        assert_eq!((second.fallen, second.short), (5_000, 5_010));
+        assert_eq!(register.close(), Ok(()));
+        assert_eq!(register.replenishment(2, 30_000), Ok(()));
+    }
+}

@@ -1,0 +1,411 @@
+//! Random drills. The maker keeps a console of its own so that it can aim at boundaries.
+
+use super::damage::damage_member_sheet;
+use super::sheets::register_sheet;
+use super::DrillCase;
+use crate::engine::{Places, Register, MAX_SUM};
+use crate::rng::Rng;
+use crate::text::{Console, Line};
+
+/// Lines that are nothing, or (all but one) that no console can read.
+pub const NOISE: [&str; 34] = [
+    "",
+    "   ",
+    "# a remark",
+    "  # close",
+    "close now",
+    "Close",
+    "close\r",
+    "close\t",
+    "open",
+    "payment",
+    "payment 1",
+    "payment 1 2 3",
+    "payment x 1",
+    "payment 1 -5",
+    "payment 1 +5",
+    "payment 1 5.0",
+    "payment 1 1,000",
+    "payment 1 18446744073709551616",
+    "payment 99999999999999999999 1",
+    "replenishment 1",
+    "replenishment 1 1 #\u{e9}\u{e8} 1",
+    "replenishment 1 1\u{e9}",
+    "default 1",
+    "default 1 x",
+    "default 1 5 2",
+    "default 1 5 2:256",
+    "default 1 5 2:x",
+    "default 1 5 2:1:1",
+    "default 1 5 :1",
+    "default 1 5 0:1",
+    "default 1 5 65:1",
+    "default 1 5 2:1 2:1",
+    "default 1 5 2: 2:",
+    "register all",
+];
+
+/// What a step of the drill does; tempers weigh these in this order.
+#[derive(Clone, Copy)]
+enum Step {
+    Default,
+    Payment,
+    Replenishment,
+    Close,
+    Settle,
+    Refill,
+    TopUp,
+    Noise,
+    Show,
+}
+
+const STEPS: [Step; 9] = [
+    Step::Default,
+    Step::Payment,
+    Step::Replenishment,
+    Step::Close,
+    Step::Settle,
+    Step::Refill,
+    Step::TopUp,
+    Step::Noise,
+    Step::Show,
+];
+
+const TEMPERS: [[u64; 9]; 4] = [
+    [30, 15, 12, 6, 10, 6, 6, 8, 3],
+    [60, 5, 5, 2, 5, 2, 10, 3, 1],
+    [30, 2, 2, 2, 25, 20, 10, 2, 1],
+    [20, 15, 15, 10, 5, 5, 5, 25, 5],
+];
+
+pub fn drill(seed: u64) -> DrillCase {
+    let mut rng = Rng::new(seed);
+    let mut sheet = register_sheet(&mut rng);
+    let faults = rng.weighted(&[88, 6, 6]);
+    damage_member_sheet(&mut rng, &mut sheet, faults);
+    let own = own_contribution(&mut rng);
+    let mut maker = Maker::new(rng, &sheet, own);
+    maker.make();
+    DrillCase {
+        sheet,
+        own,
+        calls: maker.calls,
+    }
+}
+
+fn own_contribution(rng: &mut Rng) -> u64 {
+    match rng.weighted(&[10, 10, 20, 40, 8, 6, 2, 1]) {
+        0 => 0,
+        1 => rng.pick(&[1, 2, 22]),
+        2 => rng.below(200),
+        3 => rng.below(100_000),
+        4 => rng.below(MAX_SUM + 1),
+        5 => MAX_SUM,
+        6 => MAX_SUM + 1,
+        _ => u64::MAX,
+    }
+}
+
+struct Maker {
+    rng: Rng,
+    console: Console,
+    calls: Vec<u8>,
+    lines: u64,
+    /// Whether spaces, leading zeros and remarks are strewn about.
+    loose: bool,
+    /// How many defaults in a hundred carry a faulty rank.
+    faults: u64,
+}
+
+impl Maker {
+    fn new(mut rng: Rng, sheet: &[u8], own: u64) -> Self {
+        let console = Console::open(sheet, own, &mut Vec::new()).expect("memory takes all");
+        Maker {
+            loose: rng.chance(20),
+            faults: rng.pick(&[0, 5, 5, 30]),
+            rng,
+            console,
+            calls: Vec::new(),
+            lines: 0,
+        }
+    }
+
+    fn register(&self) -> &Register {
+        self.console.register()
+    }
+
+    fn make(&mut self) {
+        let temper = self.rng.pick(&TEMPERS);
+        let members = self.register().present.count_ones() as u64;
+        let most = match members {
+            0 => 8,
+            _ if self.rng.chance(12) => 4 * members,
+            _ => 30,
+        };
+        for _ in 0..self.rng.range(0, most) {
+            match STEPS[self.rng.weighted(&temper)] {
+                Step::Default => self.declare(),
+                Step::Payment => self.pay(),
+                Step::Replenishment => self.replenish(),
+                Step::Close => self.say(vec!["close".into()]),
+                Step::Settle => self.settle(),
+                Step::Refill => self.refill(u64::MAX),
+                Step::TopUp => self.refill(9),
+                Step::Noise => self.noise(),
+                Step::Show => self.say(vec!["register".into()]),
+            }
+        }
+        self.say(vec!["register".into()]);
+        if self.rng.chance(20) {
+            self.calls.pop(); // the last line may lack its newline
+        }
+    }
+
+    /// Writes one line and lets the own console follow it.
+    fn line(&mut self, line: &str) {
+        self.lines += 1;
+        self.calls.extend_from_slice(line.as_bytes());
+        self.calls.push(b'\n');
+        let line = Line::Text(line.as_bytes());
+        self.console
+            .answer(self.lines, line, &mut std::io::sink())
+            .expect("a sink takes all");
+    }
+
+    fn say(&mut self, words: Vec<String>) {
+        if !self.loose {
+            return self.line(&words.join(" "));
+        }
+        let mut line = " ".repeat(self.rng.below(3) as usize);
+        for word in words {
+            line += &word;
+            line += &" ".repeat(self.rng.range(1, 3) as usize);
+        }
+        match self.rng.below(4) {
+            0 => line += "# said so",
+            1 => line += "#2:1",
+            2 => line.truncate(line.trim_end().len()),
+            _ => {}
+        }
+        self.line(&line);
+    }
+
+    fn number(&mut self, number: u64) -> String {
+        if self.loose && self.rng.chance(10) {
+            return format!("000{number}");
+        }
+        number.to_string()
+    }
+
+    fn call(&mut self, word: &str, member: u64, amount: u64) {
+        let (member, amount) = (self.number(member), self.number(amount));
+        self.say(vec![word.into(), member, amount]);
+    }
+
+    fn noise(&mut self) {
+        let line = self.rng.pick(&NOISE);
+        self.line(line);
+    }
+
+    /// A live member where there is one, else any number at all.
+    fn member(&mut self) -> u64 {
+        let live: Vec<usize> = Places(self.register().live).collect();
+        if live.is_empty() || self.rng.chance(4) {
+            return self.odd_member();
+        }
+        self.rng.pick(&live) as u64 + 1
+    }
+
+    fn odd_member(&mut self) -> u64 {
+        match self.rng.below(4) {
+            0 => self.rng.pick(&[0, 65, 256, 257, 1 << 32, u64::MAX]),
+            1 => {
+                let gone = self.register().present & !self.register().live;
+                Places(gone).last().map_or(1, |place| place as u64 + 1)
+            }
+            _ => self.rng.range(1, 64),
+        }
+    }
+
+    fn pay(&mut self) {
+        let owing: Vec<usize> = self.places(|r, place| r.outstanding[place] > 0);
+        if owing.is_empty() || self.rng.chance(15) {
+            let (member, amount) = (self.member(), self.rng.below(3));
+            return self.call("payment", member, amount);
+        }
+        let place = self.rng.pick(&owing);
+        let amount = self.about(self.register().outstanding[place] as u64);
+        self.call("payment", place as u64 + 1, amount);
+    }
+
+    fn replenish(&mut self) {
+        let short: Vec<usize> = self.places(|r, place| room(r, place) > 0);
+        if short.is_empty() || self.rng.chance(15) {
+            let member = self.member();
+            let amount = self.rng.pick(&[0, 1, 10_000, u64::MAX]);
+            return self.call("replenishment", member, amount);
+        }
+        let place = self.rng.pick(&short);
+        let amount = self.about(room(self.register(), place));
+        self.call("replenishment", place as u64 + 1, amount);
+    }
+
+    fn places(&self, which: impl Fn(&Register, usize) -> bool) -> Vec<usize> {
+        let register = self.register();
+        Places(register.live)
+            .filter(|&place| which(register, place))
+            .collect()
+    }
+
+    /// An amount at, under or over a limit.
+    fn about(&mut self, limit: u64) -> u64 {
+        match self.rng.weighted(&[30, 30, 15, 4, 10, 2]) {
+            0 => limit,
+            1 => self.rng.range(1, limit),
+            2 => limit.min(self.rng.range(1, 9)),
+            3 => 0,
+            4 => limit + 1,
+            _ => u64::MAX - self.rng.below(2),
+        }
+    }
+
+    /// Pays every outstanding call, some in two parts, and closes.
+    fn settle(&mut self) {
+        for place in self.places(|r, place| r.outstanding[place] > 0) {
+            let owed = self.register().outstanding[place] as u64;
+            let first = if self.rng.chance(20) {
+                self.rng.below(owed)
+            } else {
+                0
+            };
+            if first > 0 {
+                self.call("payment", place as u64 + 1, first);
+            }
+            self.call("payment", place as u64 + 1, owed - first);
+        }
+        self.say(vec!["close".into()]);
+    }
+
+    /// Replenishes every live member by at most `most`.
+    fn refill(&mut self, most: u64) {
+        for place in self.places(|r, place| room(r, place) > 0) {
+            let most = most.min(room(self.register(), place));
+            let amount = if most > 9 {
+                most
+            } else {
+                self.rng.range(1, most)
+            };
+            self.call("replenishment", place as u64 + 1, amount);
+        }
+    }
+
+    fn declare(&mut self) {
+        let member = self.member();
+        let loss = match self.register().live_place(member) {
+            Ok(place) => self.loss(place),
+            Err(_) => self.rng.below(1_000),
+        };
+        let mut words = vec!["default".into(), self.number(member), self.number(loss)];
+        words.extend(self.ranks(member));
+        self.say(words);
+        self.say(vec!["register".into()]);
+    }
+
+    /// A loss aimed at a layer: at its boundary, inside it, near its ends, or past all.
+    fn loss(&mut self, place: usize) -> u64 {
+        let sums = layer_sums(self.register(), place);
+        let layer = self.rng.weighted(&[4, 6, 8, 30, 12, 30]);
+        let floor: u64 = sums[..layer].iter().sum();
+        let ceiling = floor + sums[layer];
+        let target = match self.rng.weighted(&[20, 40, 12, 12, 8, 4, 3, 2, 1]) {
+            0 => (ceiling + self.rng.below(3)).saturating_sub(1),
+            1 => self.rng.range(floor, ceiling),
+            2 => floor + self.rng.below(10),
+            3 => ceiling.saturating_sub(self.rng.below(200)),
+            4 => sums.iter().sum::<u64>() + self.rng.below(1_000),
+            5 => return self.rng.pick(&[0, 0, 1, 2, 99]),
+            6 => return MAX_SUM,
+            7 => return MAX_SUM + 1,
+            _ => return u64::MAX,
+        };
+        let fallen = self.register().outstanding[place] as u64;
+        target.saturating_sub(fallen).min(MAX_SUM)
+    }
+
+    /// The words `M:R` of a default of `member`.
+    fn ranks(&mut self, member: u64) -> Vec<String> {
+        let live = self.register().live;
+        let read: Vec<u64> = Places(live).map(|p| p as u64 + 1).collect();
+        let read: Vec<u64> = read.into_iter().filter(|&m| m != member).collect();
+        let fault = if !read.is_empty() && self.rng.chance(self.faults) {
+            self.rng.pick(&read)
+        } else {
+            0
+        };
+        let mut order: Vec<u64> = (1..=64).collect();
+        self.rng.shuffle(&mut order);
+        let style = self.rng.below(5);
+        let spare = self.rng.pick(&[0, 0, 20, 100]);
+        let mut words = Vec::new();
+        for m in 1..=64 {
+            if m == fault {
+                words.extend(self.faulty_rank(m));
+            } else if read.contains(&m) {
+                words.push(format!("{m}:{}", self.good_rank(style, &order, m)));
+            } else if self.rng.chance(spare) {
+                words.extend(self.spare_rank(m));
+            }
+        }
+        if self.rng.chance(30) {
+            self.rng.shuffle(&mut words);
+        }
+        words
+    }
+
+    /// Ranks all distinct, all tied, in a few ties, among the senior, or any.
+    fn good_rank(&mut self, style: u64, order: &[u64], member: u64) -> u64 {
+        match style {
+            0 => order[member as usize - 1],
+            1 => order[0],
+            2 => order[self.rng.below(3) as usize],
+            3 => self.rng.range(1, 8),
+            _ => self.rng.range(1, 64),
+        }
+    }
+
+    /// A rank that is read and must be refused.
+    fn faulty_rank(&mut self, member: u64) -> Option<String> {
+        match self.rng.below(5) {
+            0 => None,
+            1 => Some(format!("{member}:")),
+            2 => Some(format!("{member}:0")),
+            3 => Some(format!("{member}:255")),
+            _ => Some(format!("{member}:{}", self.rng.range(65, 255))),
+        }
+    }
+
+    /// A rank that is not read: anything that fits a byte.
+    fn spare_rank(&mut self, member: u64) -> Option<String> {
+        if self.rng.chance(50) {
+            return Some(format!("{member}:{}", self.rng.below(256)));
+        }
+        self.faulty_rank(member)
+    }
+}
+
+fn room(register: &Register, place: usize) -> u64 {
+    (register.requirement[place] - register.contribution[place]) as u64
+}
+
+/// What each layer holds for a default of the member at `place`.
+fn layer_sums(r: &Register, place: usize) -> [u64; 6] {
+    let others = Places(r.live & !(1 << place));
+    [
+        r.margin[place] as u64,
+        r.contribution[place] as u64,
+        r.tranche1,
+        Register::sum(others, &r.contribution),
+        r.tranche2,
+        Register::sum(others, &r.cap) - Register::sum(others, &r.called),
+    ]
+}

@@ -1,0 +1,30 @@
+-- `default_of` meets its contract.
+use borrow.Author.Needs.{needs}
+use Rattle.console.proofs.lines.default_of.Statement.{statement}
+use Rattle.console.proofs.lines.default_of.Tie as tie
+
+enum-known-member : tie.Need-enum-known-member
+enum-known-member c = search needs
+
+enum-told : tie.Need-enum-told
+enum-told c = search needs
+
+returns : tie.Need-returns
+returns c = search needs
+
+enum-known-loss : tie.Need-enum-known-loss
+enum-known-loss c = search needs
+
+enum-told-2 : tie.Need-enum-told-2
+enum-told-2 c = search needs
+
+returns-2 : tie.Need-returns-2
+returns-2 c = search needs
+
+returns-3 : tie.Need-returns-3
+returns-3 c = rw (c .before .before .before .before .member .given .1, c .before .loss .given .1)
+
+pub default-of-spec : {M : Type 1} → statement M
+default-of-spec =
+    tie.close
+    (tie.spec enum-known-member enum-told returns enum-known-loss enum-told-2 returns-2 returns-3)

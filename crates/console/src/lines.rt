@@ -1,0 +1,256 @@
+// A line of a drill: what is called, and the ranks beside it.
+use drill::DrillCall;
+use text::Number;
+use text::Rank;
+use text::is_word;
+use text::next_word;
+use text::part;
+use text::read_number;
+use text::read_rank;
+ghost use mathlib.Core.Path.{_≡_};
+ghost use mathlib.Core.Bool.{true};
+ghost use Prim.Native.Nat.{_≤_};
+ghost use lib.ListN.{length, drop};
+ghost use Rattle.text.specs.Ranks.{rankOf};
+ghost use Rattle.text.specs.Numbers.{readOf};
+ghost use Rattle.console.specs.Words.{wordsOf, noWord, firstOf, restOf};
+ghost use Rattle.console.specs.Lines.{missing, isGood, marked, given, allGood, ranksIn, callOf, defaultLine, defaultRanks, pairLine, alone, otherLine, lineOf, ranksOf};
+
+pub enum Line {
+    Blank,
+    Unreadable,
+    Register,
+    Call(DrillCall),
+}
+
+// Two words as numbers, and the place behind them. A word that is not there is no number.
+struct Two {
+    first: Number,
+    second: Number,
+    end: usize,
+}
+
+// Every rank is missing.
+fn clear(ranks: &mut [u8])
+    requires { ⌜ length (now ranks) ≡ 64 ⌝ }
+    ensures { λ r. ⌜ now (ranks .exit) ≡ missing ⌝ }
+{
+    let mut i: usize = 0;
+    while i < 64 {
+        ranks[i] = 255;
+        i += 1;
+    }
+}
+
+// The rank that a word gives, where its member has none yet.
+fn take_rank(word: &[u8], ranks: &mut [u8], named: &mut [u8]) -> bool
+    requires { ⌜ (length (now ranks) ≡ 64) × (length (now named) ≡ 64) ⌝ }
+    ensures { λ r. ⌜ r ≡ isGood (now (named .entry)) (rankOf (now (word .entry))) ⌝ }
+    ensures { λ r. ⌜ (r ≡ true → now (ranks .exit) ≡ given (now (ranks .entry)) (rankOf (now (word .entry)))) ⌝ }
+    ensures { λ r. ⌜ (r ≡ true → now (named .exit) ≡ marked (now (named .entry)) (rankOf (now (word .entry)))) ⌝ }
+{
+    let Rank::Of { member, rank } = read_rank(word) else {
+        return false;
+    };
+    let at = (member - 1) as usize;
+    if named[at] != 0 {
+        return false;
+    }
+    named[at] = 1;
+    ranks[at] = rank as u8;
+    true
+}
+
+// The ranks that the words from a place on give.
+fn read_ranks(line: &[u8], from: usize, ranks: &mut [u8], named: &mut [u8]) -> bool
+    requires { ⌜ (length (now ranks) ≡ 64) × (length (now named) ≡ 64) ⌝ }
+    ensures { λ r. ⌜ r ≡ allGood (now (named .entry)) (wordsOf (drop from (now (line .entry)))) ⌝ }
+    ensures { λ r. ⌜ (r ≡ true → now (ranks .exit) ≡ ranksIn (now (ranks .entry)) (wordsOf (drop from (now (line .entry))))) ⌝ }
+{
+    let mut at = from;
+    loop {
+        let word = next_word(line, at);
+        let start = word.start;
+        let end = word.end;
+        if start == end {
+            return true;
+        }
+        if !take_rank(part(line, start, end), ranks, named) {
+            return false;
+        }
+        at = end;
+    }
+}
+
+fn two_numbers(line: &[u8], from: usize) -> Two
+    ensures { λ r. ⌜ r .first ≡ readOf (firstOf (wordsOf (drop from (now (line .entry))))) ⌝ }
+    ensures { λ r. ⌜ r .second ≡ readOf (firstOf (restOf (wordsOf (drop from (now (line .entry)))))) ⌝ }
+    ensures { λ r. ⌜ wordsOf (drop (r .end) (now (line .entry))) ≡ restOf (restOf (wordsOf (drop from (now (line .entry))))) ⌝ }
+{
+    let a = next_word(line, from);
+    let a_start = a.start;
+    let a_end = a.end;
+    let b = next_word(line, a_end);
+    let b_start = b.start;
+    let b_end = b.end;
+    let first = read_number(part(line, a_start, a_end));
+    let second = read_number(part(line, b_start, b_end));
+    Two {
+        first,
+        second,
+        end: b_end,
+    }
+}
+
+// Whether no word follows.
+fn ends(line: &[u8], from: usize) -> bool
+    ensures { λ r. ⌜ r ≡ noWord (wordsOf (drop from (now (line .entry)))) ⌝ }
+{
+    let word = next_word(line, from);
+    let start = word.start;
+    let end = word.end;
+    start == end
+}
+
+fn default_of(member: Number, loss: Number) -> Line
+    ensures { λ r. ⌜ r ≡ callOf DrillCall.Default member loss ⌝ }
+{
+    let Number::Value(m) = member else {
+        return Line::Unreadable;
+    };
+    let Number::Value(l) = loss else {
+        return Line::Unreadable;
+    };
+    Line::Call(DrillCall::Default { member: m, loss: l })
+}
+
+fn payment_of(member: Number, amount: Number) -> Line
+    ensures { λ r. ⌜ r ≡ callOf DrillCall.Payment member amount ⌝ }
+{
+    let Number::Value(m) = member else {
+        return Line::Unreadable;
+    };
+    let Number::Value(a) = amount else {
+        return Line::Unreadable;
+    };
+    Line::Call(DrillCall::Payment {
+        member: m,
+        amount: a,
+    })
+}
+
+fn replenishment_of(member: Number, amount: Number) -> Line
+    ensures { λ r. ⌜ r ≡ callOf DrillCall.Replenishment member amount ⌝ }
+{
+    let Number::Value(m) = member else {
+        return Line::Unreadable;
+    };
+    let Number::Value(a) = amount else {
+        return Line::Unreadable;
+    };
+    Line::Call(DrillCall::Replenishment {
+        member: m,
+        amount: a,
+    })
+}
+
+// What follows `default`.
+fn default_line(line: &[u8], from: usize, ranks: &mut [u8]) -> Line
+    requires { ⌜ now ranks ≡ missing ⌝ }
+    ensures { λ r. ⌜ r ≡ defaultLine (wordsOf (drop from (now (line .entry)))) ⌝ }
+    ensures { λ r. ⌜ now (ranks .exit) ≡ defaultRanks (wordsOf (drop from (now (line .entry)))) ⌝ }
+{
+    let two = two_numbers(line, from);
+    let first = two.first;
+    let second = two.second;
+    let end = two.end;
+    let mut named = [0u8; 64];
+    if !read_ranks(line, end, ranks, &mut named) {
+        clear(ranks);
+        return Line::Unreadable;
+    }
+    default_of(first, second)
+}
+
+fn payment_line(line: &[u8], from: usize) -> Line
+    ensures { λ r. ⌜ r ≡ pairLine DrillCall.Payment (wordsOf (drop from (now (line .entry)))) ⌝ }
+{
+    let two = two_numbers(line, from);
+    let first = two.first;
+    let second = two.second;
+    let end = two.end;
+    if !ends(line, end) {
+        return Line::Unreadable;
+    }
+    payment_of(first, second)
+}
+
+fn replenishment_line(line: &[u8], from: usize) -> Line
+    ensures { λ r. ⌜ r ≡ pairLine DrillCall.Replenishment (wordsOf (drop from (now (line .entry)))) ⌝ }
+{
+    let two = two_numbers(line, from);
+    let first = two.first;
+    let second = two.second;
+    let end = two.end;
+    if !ends(line, end) {
+        return Line::Unreadable;
+    }
+    replenishment_of(first, second)
+}
+
+fn close_line(line: &[u8], from: usize) -> Line
+    ensures { λ r. ⌜ r ≡ alone (Line.Call DrillCall.Close) (wordsOf (drop from (now (line .entry)))) ⌝ }
+{
+    if !ends(line, from) {
+        return Line::Unreadable;
+    }
+    Line::Call(DrillCall::Close)
+}
+
+fn register_line(line: &[u8], from: usize) -> Line
+    ensures { λ r. ⌜ r ≡ alone Line.Register (wordsOf (drop from (now (line .entry)))) ⌝ }
+{
+    if !ends(line, from) {
+        return Line::Unreadable;
+    }
+    Line::Register
+}
+
+// A line that begins with a word other than `default`.
+fn other_line(line: &[u8], word: &[u8], from: usize) -> Line
+    ensures { λ r. ⌜ r ≡ otherLine (now (word .entry)) (wordsOf (drop from (now (line .entry)))) ⌝ }
+{
+    if text::same(word, b"payment") {
+        return payment_line(line, from);
+    }
+    if text::same(word, b"replenishment") {
+        return replenishment_line(line, from);
+    }
+    if text::same(word, b"close") {
+        return close_line(line, from);
+    }
+    if text::same(word, b"register") {
+        return register_line(line, from);
+    }
+    Line::Unreadable
+}
+
+// What a line says, with the ranks of a default.
+pub fn read_line(line: &[u8], ranks: &mut [u8]) -> Line
+    requires { ⌜ length (now ranks) ≡ 64 ⌝ }
+    ensures { λ r. ⌜ r ≡ lineOf (now (line .entry)) ⌝ }
+    ensures { λ r. ⌜ now (ranks .exit) ≡ ranksOf (now (line .entry)) ⌝ }
+{
+    clear(ranks);
+    let first = next_word(line, 0);
+    let start = first.start;
+    let end = first.end;
+    if start == end {
+        return Line::Blank;
+    }
+    let word = part(line, start, end);
+    if text::same(word, b"default") {
+        return default_line(line, end, ranks);
+    }
+    other_line(line, word, end)
+}

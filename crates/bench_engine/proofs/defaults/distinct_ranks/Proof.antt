@@ -1,0 +1,54 @@
+-- `distinct_ranks` is safe and ends.
+use Prim.Native.Nat.{_-_, _≤_}
+use borrow.Author.Needs.{needs}
+use Rattle.bench_engine.proofs.defaults.distinct_ranks.Statement.{statement}
+use Rattle.bench_engine.proofs.defaults.distinct_ranks.Tie as tie
+
+abbrev Inv-loop : tie.InvT-loop
+Inv-loop ranks₀ i₀ ranks i = i ≤ 64
+
+abbrev μ-loop : tie.MeasureT-loop
+μ-loop ranks₀ i₀ ranks i = 64 - i
+
+loop-holds : tie.Need-loop-holds Inv-loop μ-loop
+loop-holds c = search needs
+
+mul-ranks : tie.Need-mul-ranks Inv-loop μ-loop
+mul-ranks c = search needs
+
+cast-ranks : tie.Need-cast-ranks Inv-loop μ-loop
+cast-ranks c = search needs
+
+add-ranks : tie.Need-add-ranks Inv-loop μ-loop
+add-ranks c = search needs
+
+array-write-ranks : tie.Need-array-write-ranks Inv-loop μ-loop
+array-write-ranks c = search needs
+
+add-i : tie.Need-add-i Inv-loop μ-loop
+add-i c = search needs
+
+loop-less : tie.Need-loop-less Inv-loop μ-loop
+loop-less c = search needs
+
+loop-again : tie.Need-loop-again Inv-loop μ-loop
+loop-again c = search needs
+
+returns : tie.Need-returns Inv-loop μ-loop
+returns c = search needs
+
+pub distinct-ranks-spec : {M : Type 1} → statement M
+distinct-ranks-spec =
+    tie.close
+    (tie.spec
+    Inv-loop
+    μ-loop
+    loop-holds
+    mul-ranks
+    cast-ranks
+    add-ranks
+    array-write-ranks
+    add-i
+    loop-less
+    loop-again
+    returns)

@@ -1,0 +1,143 @@
+// Repeated defaults of member 17 of one register of 64 members.
+use crate::fold::fold;
+use text::Row;
+use text::put_row;
+use waterfall::Allocation;
+use waterfall::Outcome;
+use waterfall::Register;
+use waterfall::Reply;
+use waterfall::declaration::declare;
+use waterfall::sheet::open;
+ghost use Prim.Native.Nat.{ℕ, _≤_};
+ghost use Rattle.waterfall.specs.Register.{GivenBack};
+
+const OWN: u64 = 1_000_003;
+
+const DEFAULTER: u64 = 17;
+
+// 777,777 less than what layers 1 to 4 have.
+const IN_LAYER_4: u64 = 64_411_573;
+
+// What layers 1 to 5 have, and half of the caps.
+const IN_LAYER_6: u64 = 82_012_632;
+
+// The record of the member at a place, with odd amounts.
+fn row(place: u64) -> Row {
+    let odd = (place % 64 + 1) * 37;
+    Row::Member {
+        member: place % 64 + 1,
+        first: 50_000 + odd,
+        second: 1_000_000 + 7 * odd,
+        third: 500_000 + 11 * odd,
+    }
+}
+
+fn fill(sheet: &mut [u8; 1024]) {
+    for i in 0..64 {
+        put_row(sheet, i * 16, row(i as u64));
+    }
+}
+
+fn register_sheet() -> [u8; 1024] {
+    let mut sheet = [0u8; 1024];
+    fill(&mut sheet);
+    sheet
+}
+
+fn fold_allocation(sum: u64, a: Allocation) -> u64 {
+    let b = fold(fold(sum, a.margin), a.own);
+    let c = fold(fold(b, a.tranche1), a.members);
+    let d = fold(fold(c, a.tranche2), a.calls);
+    fold(fold(d, a.fallen), a.short)
+}
+
+fn fold_reply(sum: u64, reply: Reply) -> u64 {
+    match reply {
+        Reply::Refused(_) => 0,
+        Reply::Accepted => 0,
+        Reply::Allocated(a) => fold_allocation(sum, a),
+    }
+}
+
+// The last charge and the last call stand for the slip.
+fn fold_slip(sum: u64, slip: &[u64; 128]) -> u64 {
+    fold(fold(sum, slip[63]), slip[127])
+}
+
+// The loss rises a little with the turn, so that no turn is like the one before.
+fn once(
+    register: Register,
+    loss: u64,
+    turn: u64,
+    ranks: &[u8; 64],
+    slip: &mut [u64; 128],
+) -> Outcome
+    requires { ⌜ GivenBack register × (loss ≤ 100_000_000) ⌝ }
+{
+    declare(register, DEFAULTER, loss + turn % 8, ranks, slip)
+}
+
+fn repeat(register: Register, loss: u64, ranks: &[u8; 64], turns: u64) -> u64
+    requires { ⌜ GivenBack register × (loss ≤ 100_000_000) ⌝ }
+{
+    let mut slip = [0u64; 128];
+    let mut sum: u64 = 0;
+    let mut turn: u64 = 0;
+    while turn < turns {
+        let outcome = once(register, loss, turn, ranks, &mut slip);
+        let reply = outcome.reply;
+        sum = fold_slip(fold_reply(sum, reply), &slip);
+        turn += 1;
+    }
+    sum
+}
+
+// A default that is refused is worth no repetition.
+fn accepted(register: Register, loss: u64, ranks: &[u8; 64]) -> bool
+    requires { ⌜ GivenBack register × (loss ≤ 100_000_000) ⌝ }
+{
+    let mut slip = [0u64; 128];
+    let outcome = once(register, loss, 0, ranks, &mut slip);
+    let reply = outcome.reply;
+    match reply {
+        Reply::Refused(_) => false,
+        Reply::Accepted => false,
+        Reply::Allocated(_) => true,
+    }
+}
+
+// Member by member another rank.
+fn distinct_ranks() -> [u8; 64] {
+    let mut ranks = [0u8; 64];
+    for i in 0..64 {
+        ranks[i] = (i * 29 % 64) as u8 + 1;
+    }
+    ranks
+}
+
+fn run(loss: u64, ranks: &[u8; 64], turns: u64) -> u64
+    requires { ⌜ loss ≤ 100_000_000 ⌝ }
+{
+    let sheet = register_sheet();
+    let opened = open(&sheet, OWN);
+    let register = opened.register;
+    if accepted(register, loss, ranks) {
+        return repeat(register, loss, ranks, turns);
+    }
+    0
+}
+
+pub fn distinct(turns: u64) -> u64 {
+    let ranks = distinct_ranks();
+    run(IN_LAYER_4, &ranks, turns)
+}
+
+pub fn tied(turns: u64) -> u64 {
+    let ranks = [9u8; 64];
+    run(IN_LAYER_4, &ranks, turns)
+}
+
+pub fn calls(turns: u64) -> u64 {
+    let ranks = distinct_ranks();
+    run(IN_LAYER_6, &ranks, turns)
+}

@@ -1,0 +1,77 @@
+// Runs one case of the benchmarks so many times and prints a checksum of the answers, which must equal the Rust implementation's.
+// The cases: distinct, tied and calls REPS, and sizing REPS STRESS SHARES.
+mod defaults;
+mod fold;
+mod sheets_read;
+mod sizings;
+
+use libc::STDERR_FILENO;
+use libc::STDOUT_FILENO;
+use text::Number;
+
+fn usage() {
+    io::write_all(
+        STDERR_FILENO,
+        b"usage: bench_engine distinct|tied|calls REPS\n       bench_engine sizing REPS STRESS SHARES\n",
+    );
+}
+
+fn say(sum: u64) {
+    io::print_decimal(STDOUT_FILENO, sum);
+    io::write_all(STDOUT_FILENO, b"\n");
+}
+
+fn run_sizing(turns: u64) {
+    if os::arg_count() != 5 {
+        usage();
+        return;
+    }
+    say(sizings::run(turns));
+}
+
+fn run_default(case: &[u8], turns: u64) {
+    if os::arg_count() != 3 {
+        usage();
+        return;
+    }
+    if text::same(case, b"distinct") {
+        say(defaults::distinct(turns));
+    } else if text::same(case, b"tied") {
+        say(defaults::tied(turns));
+    } else if text::same(case, b"calls") {
+        say(defaults::calls(turns));
+    } else {
+        usage();
+    }
+}
+
+fn run(case: &[u8], turns: u64) {
+    if text::same(case, b"sizing") {
+        run_sizing(turns);
+    } else {
+        run_default(case, turns);
+    }
+}
+
+// The number of repetitions, the second argument.
+fn repetitions() -> Number {
+    let mut word = [0u8; 32];
+    let n = os::arg(2, &mut word);
+    if os::errno() != 0 {
+        return Number::NotANumber;
+    }
+    text::read_number(&word[..n])
+}
+
+fn main() {
+    let mut case = [0u8; 16];
+    let n = os::arg(1, &mut case);
+    if os::errno() != 0 {
+        usage();
+        return;
+    }
+    match repetitions() {
+        Number::Value(turns) => run(&case[..n], turns),
+        Number::NotANumber => usage(),
+    }
+}

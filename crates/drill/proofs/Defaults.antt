@@ -1,31 +1,27 @@
 -- The laws of a single step, for a default on a register that was given back.
-use Prim.Native.Nat.{ℕ, zero, suc, _+_, _-_, _≤_, _<_}
-use mathlib.Core.Path.{_≡_, refl, ap, sym, _∙_}
-use mathlib.Core.Bool.{Bool, true, false, cond, _&&_, true≢false, false≢true}
+use Prim.Native.Nat.{ℕ, _+_, _<_}
+use mathlib.Core.Path.{_≡_, refl, ap, _∙_}
+use mathlib.Core.Bool.{Bool, true, false, cond}
 use mathlib.Core.List.{List, _++_, append-assoc}
 use native.Mathlib.Omega.{arith}
 use borrow.Author.Tests.{ltb-true, eqb-false}
-use lib.Dec.{eqb, ltb}
-use lib.ListN.{length, getD, take, drop}
+use lib.Dec.{ltb}
+use lib.ListN.{take, drop}
 use lib.Seq.{take-at, drop-at}
 use Rattle.lists.specs.Checks.{check}
 use Rattle.lists.specs.Limits.{memberLimit}
-use Rattle.lists.specs.Sums.{total, plus, minus}
 use Rattle.lists.proofs.Checks.{no-refusal}
-use Rattle.waterfall.specs.Register.{absent, live, inDefault, figure, replace, GivenBack}
+use Rattle.waterfall.specs.Register.{inDefault, figure, replace, GivenBack}
 use Rattle.waterfall.specs.Reply.{refuse}
-use Rattle.waterfall.specs.Default.{fallenCall, onMargin, onOwnFund, onTranche1, charges, onTranche2, onCalls, calls, shortfall, after1, after2, after3, after4, after5, allocationOf, settledOf, defaultRefusal, defaultOf, defaultSlip}
+use Rattle.waterfall.specs.Default.{fallenCall, onMargin, onOwnFund, charges, calls, after1, after2, after3, after4, after5, allocationOf, settledOf, defaultRefusal, defaultOf, defaultSlip}
 use Rattle.waterfall.specs.declared.Register.{Register}
 use Rattle.waterfall.specs.declared.Reply.the-variants.{Allocated}
-use Rattle.waterfall.specs.declared.Outcome.{Outcome}
 use Rattle.waterfall.proofs.Admitted.{Admitted, admitted}
-use Rattle.waterfall.proofs.Default.{placed, margin-gives, own-gives, tranche1-gives, tranche2-gives, charges-within, left1, left2, left3, left4, left5, left6}
-use Rattle.waterfall.proofs.Figures.{figure-same, figure-other, figure-plus, figure-le, by-member}
+use Rattle.waterfall.proofs.Default.{placed, margin-gives, own-gives, tranche1-gives, tranche2-gives, charges-within, left2, left3, left4, left5, left6}
+use Rattle.waterfall.proofs.Figures.{figure-same, figure-other, replaced, figure-plus, figure-le, by-member}
 use Rattle.waterfall.proofs.Given.{given-settled, length-calls, length-charged}
-use Rattle.waterfall.proofs.Order.{defaulter-known, settled-own, settled-other, settled-margin, defaulter-uncharged, empty1, empty2, empty3, empty4, empty5, empty6, by-rank}
+use Rattle.waterfall.proofs.Order.{defaulter-known, settled-own, settled-other, defaulter-uncharged, empty1, empty2, empty3, empty4, empty5, empty6, by-rank}
 use Rattle.drill.specs.Drill.{Event}
-use Rattle.drill.specs.Counting.{lossHanded, defaults}
-use Rattle.drill.specs.declared.DrillCall.{DrillCall}
 use Rattle.drill.specs.declared.DrillCall.the-variants.{Default}
 use Rattle.drill.proofs.Laws.{StepLaws, Ordered}
 use Rattle.drill.proofs.Calls.{seen, refused-laws}
@@ -120,16 +116,8 @@ module _ (r : Register) (g : GivenBack r) (member loss : ℕ) (ranks slip : List
         cap-stays = refl;
         placed = placed r member loss ranks;
         margin = λ m.
-            by-member (λ b. figure (r .margin) m ≡ figure (settledOf r member loss ranks .margin) m + cond b (onMargin r member loss) 0) member m
-            (λ e.
-            omega (
-              arith,
-              margin-gives r member loss ranks,
-              settled-margin r g member loss ranks slip a,
-              ap (figure (r .margin)) e,
-              ap (figure (settledOf r member loss ranks .margin)) e,
-            ))
-            (λ d. omega (arith, figure-other (r .margin) member m (figure (r .margin) member - onMargin r member loss) (k .0) d));
+            replaced (λ b old new. old ≡ new + cond b (onMargin r member loss) 0) (r .margin) member m _ (k .0) (omega (arith, k, g .margin-length))
+            (omega (arith, margin-gives r member loss ranks)) (λ y. omega arith);
         contribution = λ m.
             by-member (λ b. figure (r .contribution) m + 0 ≡ figure (settledOf r member loss ranks .contribution) m + cond b (onOwnFund r member loss) 0 + figure (take memberLimit left) m) member m
             (λ e.

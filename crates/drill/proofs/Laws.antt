@@ -1,13 +1,13 @@
 -- The laws of a single step, as one record: the theorem over a list is proved from these alone.
-use Prim.Native.Nat.{ℕ, _+_, _≤_, _<_}
+use Prim.Native.Nat.{ℕ, _+_}
 use mathlib.Core.Path.{_≡_}
-use mathlib.Core.Bool.{Bool, true, false, cond, _&&_}
+use mathlib.Core.Bool.{true, false, cond, _&&_}
 use Rattle.waterfall.specs.Register.{live, figure, GivenBack}
-use Rattle.waterfall.specs.Reply.{Layer, layer1, layer2, layer3, layer4, layer5, layer6}
+use Rattle.waterfall.specs.Reply.{layer1, layer2, layer3, layer4, layer5, layer6}
 use Rattle.waterfall.specs.declared.Register.{Register}
 use Rattle.drill.specs.Drill.{Event}
 use Rattle.drill.specs.Counting.{accepted, defaults, isClose, lossIn, shortIn, fallenIn, fallenBy, layerIn, layerBy, chargeOn, callOn, paidBy, replenishedBy}
-use Rattle.drill.specs.declared.DrillCall.{DrillCall}
+use Rattle.drill.specs.Statement.{InOrder}
 use Rattle.drill.specs.declared.DrillCall.the-variants.{Default}
 
 -- the order at an accepted default of `member`, by the marks of the register that it was made on and the calls that the one given back counts
@@ -15,22 +15,23 @@ module _ (r : Register) (e : Event) (member : ℕ) where
   abbrev pub Other : ℕ → Type 0
   Other n = (figure (r .status) n ≡ live) × (n ≡ member → ⊥)
 
-  abbrev pub Spent : Layer → Type 0
-  Spent layer1 = figure (e .register .margin) member ≡ 0
-  Spent layer2 = figure (e .register .contribution) member ≡ 0
-  Spent layer3 = e .register .first ≡ 0
-  Spent layer4 = (n : ℕ) → Other n → figure (e .register .contribution) n ≡ 0
-  Spent layer5 = e .register .second ≡ 0
-  Spent layer6 = (n : ℕ) → Other n → figure (e .register .called) n ≡ figure (e .register .cap) n
+  abbrev pub Ordered : Type 0
+  Ordered = InOrder Other (λ n. figure (e .register .called) n ≡ figure (e .register .cap) n) e member
 
-  pub record Ordered : Type 0 where
-    pub layer2-charged : 0 < layerIn layer2 e → Spent layer1
-    pub layer3-charged : 0 < layerIn layer3 e → Spent layer1 × Spent layer2
-    pub layer4-charged : 0 < layerIn layer4 e → Spent layer1 × Spent layer2 × Spent layer3
-    pub layer5-charged : 0 < layerIn layer5 e → Spent layer1 × Spent layer2 × Spent layer3 × Spent layer4
-    pub layer6-charged : 0 < layerIn layer6 e → Spent layer1 × Spent layer2 × Spent layer3 × Spent layer4 × Spent layer5
-    pub short : 0 < shortIn e → Spent layer1 × Spent layer2 × Spent layer3 × Spent layer4 × Spent layer5 × Spent layer6
-    pub by-rank : (m n : ℕ) → 0 < chargeOn m e → Other n → figure (e .ranks) m < figure (e .ranks) n → figure (e .register .contribution) n ≡ 0
+-- the order by others that are among those, and are called up where those are
+pub in-order : {Other Among CalledUp Full : ℕ → Type 0} (e : Event) (member : ℕ) → ((n : ℕ) → Among n → Other n) → ((n : ℕ) → CalledUp n → Full n)
+    → InOrder Other CalledUp e member → InOrder Among Full e member
+in-order e member other full o =
+    record {
+      layer2-charged = o .layer2-charged;
+      layer3-charged = o .layer3-charged;
+      layer4-charged = o .layer4-charged;
+      layer5-charged = λ h. let s = o .layer5-charged h in (s .0, s .1, s .2, λ n l. s .3 n (other n l));
+      layer6-charged = λ h. let s = o .layer6-charged h in (s .0, s .1, s .2, (λ n l. s .3 n (other n l)), s .4);
+      short = λ h.
+          let s = o .short h in (s .0, s .1, s .2, (λ n l. s .3 n (other n l)), s .4, λ n l. full n (s .5 n (other n l)));
+      by-rank = λ i n p l h. o .by-rank i n p (other n l) h;
+    }
 
 -- what one event does to the register `r` that it was made on
 pub record StepLaws (r : Register) (e : Event) : Type 0 where

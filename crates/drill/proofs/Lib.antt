@@ -6,4 +6,5 @@ pub mod Runs
 pub mod Opening
 pub mod Theorem
 pub mod Outcomes
+pub mod Wrapped
 pub mod TwoFigures

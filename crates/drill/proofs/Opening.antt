@@ -1,13 +1,12 @@
 -- An accepted opening: the figures of the register are those of the sheet.
-use Prim.Native.Nat.{ℕ, zero, suc, _+_, _-_, _≤_, _<_, zero-le}
+use Prim.Native.Nat.{ℕ, zero, suc, _+_, _-_, _≤_, _<_}
 use mathlib.Core.Path.{_≡_, refl, ap, sym, _∙_}
-use mathlib.Core.Bool.{Bool, true, false, cond, _&&_, true≢false}
+use mathlib.Core.Bool.{Bool, true, false, cond, true≢false}
 use mathlib.Core.List.{List}
 use native.Mathlib.Omega.{arith}
 use borrow.Author.Tests.{eqb-true, eqb-false, ltb-true, le-ltb, lt-ltb}
 use lib.Dec.{eqb, ltb}
 use lib.ListN.{length, getD, length-set}
-use Rattle.lists.specs.Checks.{check}
 use Rattle.lists.specs.Limits.{memberLimit, contributionFloor}
 use Rattle.lists.proofs.Checks.{check-true, check-false}
 use Rattle.lists.proofs.Places.{set-all}
@@ -18,7 +17,7 @@ use Rattle.sheets.proofs.Accepted.{record-in-order, rest-accepted}
 use Rattle.waterfall.specs.Register.{live, figure, replace, none, emptyRegister}
 use Rattle.waterfall.specs.Opening.{firstTranche, secondTranche, enteredOf, enteredFrom, unentered, openingRegister, openingRefusal, openedOf}
 use Rattle.waterfall.specs.declared.Register.{Register}
-use Rattle.waterfall.proofs.Figures.{figure-same, figure-other, figure-none, figure-bound, by-member}
+use Rattle.waterfall.proofs.Figures.{figure-other, replaced, figure-none, figure-bound}
 use Rattle.waterfall.proofs.Opening.{accepts}
 use Rattle.drill.specs.Counting.{openingAccepted, figuresFrom, inSheet, named, openingSum, openingMargin, openingContribution, sheetCap, openingTranche1, openingTranche2}
 
@@ -27,26 +26,14 @@ put : (List ℕ → ℕ) → ℕ → List ℕ → ℕ → List ℕ → List ℕ
 put f zero sheet i xs = xs
 put f (suc n) sheet i xs = put f n sheet (i + 1) (replace xs (memberAt (recordAt sheet i)) (f (recordAt sheet i)))
 
--- the register's lists are such
-entered-status : (n : ℕ) (sheet : List ℕ) (i : ℕ) (r : Register) → enteredFrom n sheet i r .status ≡ put (λ s. live) n sheet i (r .status)
-unfolding enteredFrom enteredOf put
-entered-status zero sheet i r = refl
-entered-status (suc n) sheet i r = entered-status n sheet (i + 1) (enteredOf r (recordAt sheet i))
-
-entered-margin : (n : ℕ) (sheet : List ℕ) (i : ℕ) (r : Register) → enteredFrom n sheet i r .margin ≡ put firstAt n sheet i (r .margin)
-unfolding enteredFrom enteredOf put
-entered-margin zero sheet i r = refl
-entered-margin (suc n) sheet i r = entered-margin n sheet (i + 1) (enteredOf r (recordAt sheet i))
-
-entered-contribution : (n : ℕ) (sheet : List ℕ) (i : ℕ) (r : Register) → enteredFrom n sheet i r .contribution ≡ put secondAt n sheet i (r .contribution)
-unfolding enteredFrom enteredOf put
-entered-contribution zero sheet i r = refl
-entered-contribution (suc n) sheet i r = entered-contribution n sheet (i + 1) (enteredOf r (recordAt sheet i))
-
-entered-cap : (n : ℕ) (sheet : List ℕ) (i : ℕ) (r : Register) → enteredFrom n sheet i r .cap ≡ put thirdAt n sheet i (r .cap)
-unfolding enteredFrom enteredOf put
-entered-cap zero sheet i r = refl
-entered-cap (suc n) sheet i r = entered-cap n sheet (i + 1) (enteredOf r (recordAt sheet i))
+-- a list of the register in which each record puts its figure is such
+entered-list : (list : Register → List ℕ) (f : List ℕ → ℕ) → ((r : Register) (s : List ℕ) → list (enteredOf r s) ≡ replace (list r) (memberAt s) (f s))
+    → (n : ℕ) (sheet : List ℕ) (i : ℕ) (r : Register) → list (enteredFrom n sheet i r) ≡ put f n sheet i (list r)
+unfolding enteredFrom put
+entered-list list f h zero sheet i r = refl
+entered-list list f h (suc n) sheet i r =
+    let s : List ℕ = recordAt sheet i in
+    entered-list list f h n sheet (i + 1) (enteredOf r s) ∙ ap (put f n sheet (i + 1)) (h r s)
 
 -- what no record names stays
 entered-rest : (n : ℕ) (sheet : List ℕ) (i : ℕ) (r : Register) → (enteredFrom n sheet i r .outstanding ≡ r .outstanding) × (enteredFrom n sheet i r .called ≡ r .called) × (enteredFrom n sheet i r .first ≡ r .first) × (enteredFrom n sheet i r .second ≡ r .second)
@@ -67,9 +54,7 @@ put-figure f m (suc n) sheet i last xs l z q =
     let next : (k : ℕ) → w < k → figure (replace xs w (f s)) k ≡ 0 =
     λ k h. figure-other xs w k (f s) (o .member-least) (λ e. omega arith) ∙ z k (omega (arith, o .rises)) in
     let entered : figure (replace xs w (f s)) m ≡ figure xs m + cond (eqb w m) (f s) 0 =
-    by-member (λ b. figure (replace xs w (f s)) m ≡ figure xs m + cond b (f s) 0) w m
-    (λ e. omega (arith, figure-same xs w m (f s) (o .member-least) (omega (arith, o .member-most)) e, z w (o .rises), ap (figure xs) e))
-    (λ d. omega (arith, figure-other xs w m (f s) (o .member-least) d)) in
+    replaced (λ b old new. new ≡ old + cond b (f s) 0) xs w m (f s) (o .member-least) (omega (arith, o .member-most)) (omega (arith, z w (o .rises))) (λ y. omega arith) in
     omega (
       arith,
       entered,
@@ -106,34 +91,32 @@ module _ (sheet : List ℕ) (g : ℕ) (ok : openedOf sheet g .refusal .number �
         put-figure f m (recordCount sheet) sheet 0 0 none refl (λ k h. figure-none k) all-accepted,
       )
 
-  pub margin-opened : (m : ℕ) → figure (opened .margin) m ≡ inSheet firstAt sheet m
+  list-opened : (list : Register → List ℕ) (f : List ℕ → ℕ) → ((r : Register) (s : List ℕ) → list (enteredOf r s) ≡ replace (list r) (memberAt s) (f s)) → list (unentered g) ≡ none
+      → (m : ℕ) → figure (list opened) m ≡ figure (put f (recordCount sheet) sheet 0 none) m
   unfolding openingRegister
-  margin-opened m =
-      ap (λ (r : Register). figure (r .margin) m) is-opening
-      ∙ ap (λ (xs : List ℕ). figure xs m) (entered-margin (recordCount sheet) sheet 0 (unentered g)) ∙ sheet-figure firstAt m
+  list-opened list f h e m =
+      ap (λ (r : Register). figure (list r) m) is-opening
+      ∙ ap (λ (xs : List ℕ). figure xs m) (entered-list list f h (recordCount sheet) sheet 0 (unentered g) ∙ ap (put f (recordCount sheet) sheet 0) e)
+
+  pub margin-opened : (m : ℕ) → figure (opened .margin) m ≡ inSheet firstAt sheet m
+  unfolding enteredOf
+  margin-opened m = list-opened (λ r. r .margin) firstAt (λ r s. refl) refl m ∙ sheet-figure firstAt m
 
   pub contribution-opened : (m : ℕ) → figure (opened .contribution) m ≡ inSheet secondAt sheet m
-  unfolding openingRegister
-  contribution-opened m =
-      ap (λ (r : Register). figure (r .contribution) m) is-opening
-      ∙ ap (λ (xs : List ℕ). figure xs m) (entered-contribution (recordCount sheet) sheet 0 (unentered g)) ∙ sheet-figure secondAt m
+  unfolding enteredOf
+  contribution-opened m = list-opened (λ r. r .contribution) secondAt (λ r s. refl) refl m ∙ sheet-figure secondAt m
 
   pub cap-opened : (m : ℕ) → figure (opened .cap) m ≡ inSheet thirdAt sheet m
-  unfolding openingRegister
-  cap-opened m =
-      ap (λ (r : Register). figure (r .cap) m) is-opening
-      ∙ ap (λ (xs : List ℕ). figure xs m) (entered-cap (recordCount sheet) sheet 0 (unentered g)) ∙ sheet-figure thirdAt m
+  unfolding enteredOf
+  cap-opened m = list-opened (λ r. r .cap) thirdAt (λ r s. refl) refl m ∙ sheet-figure thirdAt m
 
   -- who is named is live
   pub live-opened : (m : ℕ) → named sheet m ≡ true → figure (opened .status) m ≡ live
-  unfolding openingRegister
+  unfolding enteredOf
   live-opened m n =
-      let e : figure (opened .status) m ≡ figure (put (λ s. live) (recordCount sheet) sheet 0 none) m =
-      ap (λ (r : Register). figure (r .status) m) is-opening
-      ∙ ap (λ (xs : List ℕ). figure xs m) (entered-status (recordCount sheet) sheet 0 (unentered g)) in
       omega (
         arith,
-        e,
+        list-opened (λ r. r .status) (λ s. live) (λ r s. refl) refl m,
         sheet-figure (λ s. live) m,
         ltb-true 0 (inSheet (λ s. 1) sheet m) n,
         figure-bound (put (λ s. live) (recordCount sheet) sheet 0 none) live (put-mark (recordCount sheet) sheet 0 none (λ k. omega (arith, figure-none (suc k)))) m,

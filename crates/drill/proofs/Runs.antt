@@ -1,12 +1,12 @@
 -- A list of events, each of which keeps the laws of a step: its sums, and what is known after any beginning of it.
-use Prim.Native.Nat.{ℕ, _+_, _≤_, _<_}
-use mathlib.Core.Path.{_≡_, refl, ap, sym, _∙_}
-use mathlib.Core.Bool.{Bool, true, false, cond, _&&_, _||_}
+use Prim.Native.Nat.{ℕ, _+_}
+use mathlib.Core.Path.{_≡_, refl, ap, _∙_}
+use mathlib.Core.Bool.{false, cond, _&&_}
 use mathlib.Core.List.{List, [], _∷_, _++_}
 use native.Mathlib.Omega.{arith}
 use Rattle.lists.proofs.Checks.{neither}
 use Rattle.waterfall.specs.Register.{live, figure, GivenBack}
-use Rattle.waterfall.specs.Reply.{Layer, layer1, layer2, layer3, layer4, layer5, layer6}
+use Rattle.waterfall.specs.Reply.{layer1, layer2, layer3, layer4, layer5, layer6}
 use Rattle.waterfall.specs.declared.Register.{Register}
 use Rattle.drill.specs.Drill.{Step, Event, eventOf, appliedOf, slipLeft, trace}
 use Rattle.drill.specs.Counting.{accepted, defaults, isClose, lossIn, shortIn, fallenIn, fallenBy, layerIn, layerBy, chargeOn, callOn, paidBy, replenishedBy, sumOver, lastRegister, defaulted, calledSince}

@@ -1,23 +1,23 @@
 -- Statement 3, proved: for any register sheet, any G and any list of drill calls.
-use Prim.Native.Nat.{ℕ, _+_, _≤_, _<_}
-use mathlib.Core.Path.{_≡_, refl, ap, sym, subst, _∙_}
-use mathlib.Core.Bool.{Bool, true, false, not, _&&_}
+use Prim.Native.Nat.{ℕ, _≤_}
+use mathlib.Core.Path.{_≡_, ap, sym, subst, _∙_}
+use mathlib.Core.Bool.{true, not, _&&_}
 use mathlib.Core.List.{List, [], _∷_, _++_, append-assoc}
 use native.Mathlib.Omega.{arith}
 use borrow.Author.Tests.{not-true}
 use Rattle.lists.proofs.Checks.{both}
 use Rattle.waterfall.specs.Opening.{openedOf}
-use Rattle.waterfall.specs.Register.{live, figure, GivenBack}
+use Rattle.waterfall.specs.Register.{live, figure}
 use Rattle.waterfall.specs.declared.Register.{Register}
 use Rattle.waterfall.proofs.Figures.{figure-le}
 use Rattle.waterfall.proofs.Opening.{given-opened}
 use Rattle.drill.specs.Drill.{Step, Event, trace}
 use Rattle.drill.specs.Counting.{openingAccepted, named, defaulted, sheetCap, accepted, lastRegister, liveAfter, calledSince}
-use Rattle.drill.specs.Statement.{OtherLive, InOrder, Statement3}
+use Rattle.drill.specs.Statement.{OtherLive, CalledToCap, InOrder, Statement3}
 use Rattle.drill.specs.declared.DrillCall.the-variants.{Default}
-use Rattle.drill.proofs.Laws.{StepLaws, Ordered, Other}
+use Rattle.drill.proofs.Laws.{in-order}
 use Rattle.drill.proofs.Runs.{Run, trace-runs, totals, next-laws, last-given, last-cap, last-called, last-live, last-of}
-use Rattle.drill.proofs.Opening.{Opens, opens}
+use Rattle.drill.proofs.Opening.{opens}
 
 module _ (sheet : List ℕ) (g : ℕ) (steps : List Step) where
   abbrev opened : Register
@@ -45,31 +45,20 @@ module _ (sheet : List ℕ) (g : ℕ) (steps : List Step) where
   counted-cap : (before after : List Event) → Run opened (before ++ after) → (m : ℕ) → figure (lastRegister opened before .cap) m ≡ sheetCap sheet g m
   counted-cap before after r m = ap (λ (xs : List ℕ). figure xs m) (last-cap after before opened r) ∙ opens sheet g .cap m
 
-  in-order : (before : List Event) (e : Event) (after : List Event) → events ≡ before ++ e ∷ after
-      → (m loss : ℕ) → e .call ≡ Default m loss → accepted e ≡ true → InOrder sheet g before e m
-  in-order before e after q m loss c t =
+  ordered : (before : List Event) (e : Event) (after : List Event) → events ≡ before ++ e ∷ after
+      → (m loss : ℕ) → e .call ≡ Default m loss → accepted e ≡ true → InOrder (OtherLive sheet g before m) (CalledToCap sheet g before e) e m
+  ordered before e after q m loss c t =
       let r : Run opened (before ++ e ∷ after) = run-of _ q in
       let r1 : Run opened ((before ++ e ∷ []) ++ after) = subst (Run opened) (sym (append-assoc before (e ∷ []) after)) r in
-      let o = next-laws before opened e after r .ordered m loss c t in
-      let other : (n : ℕ) → OtherLive sheet g before e m n → Other (lastRegister opened before) e m n =
-      λ n l. (counted-live before (e ∷ after) r n (l .0), l .1) in
-      let full : (n : ℕ) → figure (e .register .called) n ≡ figure (e .register .cap) n → calledSince n 0 (before ++ e ∷ []) ≡ sheetCap sheet g n =
-      λ n f.
+      in-order e m
+      (λ n l. (counted-live before (e ∷ after) r n (l .0), l .1))
+      (λ n f.
       sym (counted-called (before ++ e ∷ []) after r1 n)
       ∙ ap (λ (x : Register). figure (x .called) n) (last-of before opened e)
       ∙ f
       ∙ sym (ap (λ (x : Register). figure (x .cap) n) (last-of before opened e))
-      ∙ counted-cap (before ++ e ∷ []) after r1 n in
-      record {
-        layer2-charged = o .layer2-charged;
-        layer3-charged = o .layer3-charged;
-        layer4-charged = o .layer4-charged;
-        layer5-charged = λ h. let s = o .layer5-charged h in (s .0, s .1, s .2, λ n l. s .3 n (other n l));
-        layer6-charged = λ h. let s = o .layer6-charged h in (s .0, s .1, s .2, (λ n l. s .3 n (other n l)), s .4);
-        short = λ h.
-            let s = o .short h in (s .0, s .1, s .2, (λ n l. s .3 n (other n l)), s .4, λ n l. full n (s .5 n (other n l)));
-        by-rank = λ i n p l h. o .by-rank i n p (other n l) h;
-      }
+      ∙ counted-cap (before ++ e ∷ []) after r1 n)
+      (next-laws before opened e after r .ordered m loss c t)
 
   within-caps : (before after : List Event) → events ≡ before ++ after → (m : ℕ) → calledSince m 0 before ≤ sheetCap sheet g m
   within-caps before after q m =
@@ -93,6 +82,6 @@ module _ (sheet : List ℕ) (g : ℕ) (steps : List Step) where
         tranche1 = sym (o .tranche1) ∙ t .tranche1;
         tranche2 = sym (o .tranche2) ∙ t .tranche2;
         calls = λ m. omega (arith, o .outstanding m, t .calls m);
-        order = in-order;
+        order = ordered;
         caps = within-caps;
       }

@@ -12,13 +12,13 @@ use base.Logic.{SProp, ent, sep, snd∗, exE, id⊢}
 use base.Fml.{GName, Lft, Share, ftrue, fat, flft, fobs, fbor}
 use prog.Wp.{Heap, Calls, Loops, WpFn, Tables}
 use ghost.Atoms.{Atoms, sem}
-use contract.Monad.{Mono, fact}
+use contract.Monad.{fact}
 use contract.Lifetimes.{Lfts}
 use types.Kit.{Given, ‵, raw, _⊛_, some, later, _$_, _∵_, !, qed, by, move, keep, drop, use1, split, join, rewrite, pick, fsplit, fsplit3, fjoin, fjoin3, feqI, suffices, frame, await, done}
 use types.Run.{look, look-raw, init, store-raw, forget, stop, hop, fld, from, load, of-opd, and-then, no-more, assigns, land, returns, enter, alloc1, alloc0, params1, pass1, pass0, free1, free0}
 use types.Part.{whole, sub, look-in}
 use types.SemTy.{Body}
-use sound.WpLaws.{FmC, fmOf, WpFn-mono}
+use sound.WpLaws.{FmC, WpFn-mono}
 use denote.RattleType.{owns}
 use denote.Laws.{Is, shows}
 use denote.Memory.{mem, pointee}
@@ -34,7 +34,7 @@ use denote.Triple.Statement.{Contract, Triple}
 use denote.Triple.Call.{calls-at}
 use denote.Triple.Entry.{Args, Res, onEntry}
 use denote.Triple.Spec.{Meets, tripleOf}
-use denote.Triple.Walked.{says, needs, Stays, stay-ref, stay-dropped, walkOf, AllGo, goes-ref, goes-dropped, Walks, ends-at, walked, walk-meets}
+use denote.Triple.Walked.{says, needs, Stays, stay-ref, stay-dropped, walkOf, AllGo, goes-ref, goes-dropped, Walks, ends-at, walked}
 use denote.Triple.Clauses.{Clauses, Lasts, AtExit, atExit, ensured, lasts, closing}
 use denote.Triple.Weaken.{weaken}
 use denote.Exit.{yes}
@@ -48,6 +48,7 @@ use Rattle.waterfall.proofs.Outcome.Laws as O′
 use Rattle.waterfall.proofs.Reply as R
 use Rattle.waterfall.proofs.Reply.Laws as R′
 use Rattle.drill.proofs.Outcomes.{vals, reply-val, first-of, register-is, reply-is}
+use Rattle.drill.proofs.Wrapped.{walk-wraps}
 use Rattle.waterfall.proofs.payment.pay as payment
 use Rattle.drill.proofs.in_place.pay as pay
 
@@ -154,12 +155,11 @@ module _ {M : Type 1} (𝓤 : URA M) (H : Heap 𝓤) (A : Atoms 𝓤) (W : Given
   goes = (goes-ref 𝓤 H A W 1 0 tt (plain (λ _. T.the-row)), (goes-dropped 𝓤 H A W 1 (plain (λ _. u64)) yes (λ κs x f. refl), (goes-dropped 𝓤 H A W 1 (plain (λ _. u64)) yes (λ κs x f. refl), tt)))
 
 -- at a contract whose `ensures` follows from what the call says
-module _ {M : Type 1} (𝓤 : URA M) (H : Heap 𝓤) (A : Atoms 𝓤) (W : Given 𝓤 H A) (of : Register → ℕ → ℕ → Outcome) (key : Name) (𝓣 : Tables 𝓤 H)
+module _ {M : Type 1} (𝓤 : URA M) (H : Heap 𝓤) (A : Atoms 𝓤) (W : Given 𝓤 H A) (of : Register → ℕ → ℕ → Outcome) (key : Name)
     (ensures : (κs : Lfts 1) (a : Args pay.signature κs) → Unit {0} → Res pay.signature κs → AtExit pay.ended κs → SProp 𝓤) where
   pub meets : ((κs : Lfts 1) (a : Args pay.signature κs) (g : Unit {0}) (r : Res pay.signature κs) (ws : Lasts pay.ended κs a) → ent 𝓤 (clauses 𝓤 H A of κs a .ensures g r (atExit pay.ended κs a ws)) (ensures κs a g r (atExit pay.ended κs a ws)))
-      → Triple 𝓤 (𝓣 .C key) (Call 𝓤 H A of)
+      → (𝓣 : Tables 𝓤 H) → Triple 𝓤 (𝓣 .C key) (Call 𝓤 H A of)
       → Meets 𝓤 H A pay.signature (WpFn 𝓤 H (𝓣 .C) (𝓣 .Λ) (function key)) (closing 𝓤 H A pay.ended (λ κs a. record { ghost = Unit {0}; requires = clauses 𝓤 H A of κs a .requires; ensures = ensures κs a }))
-  meets follows known =
-      let mono : (vs : List Val) → Mono 𝓤 (WpFn 𝓤 H (𝓣 .C) (𝓣 .Λ) (function key) vs) = WpFn-mono 𝓤 H (W .laws) 𝓣 (function key) in
-      weaken 𝓤 H A pay.ended W (clauses 𝓤 H A of) ensures follows (WpFn 𝓤 H (𝓣 .C) (𝓣 .Λ) (function key)) mono
-      (walk-meets 𝓤 H A pay.ended stayed W (goes 𝓤 H A W of key) (clauses 𝓤 H A of) (WpFn 𝓤 H (𝓣 .C) (𝓣 .Λ) (function key)) mono (walks 𝓤 H A W of key (𝓣 .C) (𝓣 .Λ) (fmOf 𝓤 H (W .laws) 𝓣) known))
+  meets follows 𝓣 known =
+      weaken 𝓤 H A pay.ended W (clauses 𝓤 H A of) ensures follows (WpFn 𝓤 H (𝓣 .C) (𝓣 .Λ) (function key)) (WpFn-mono 𝓤 H (W .laws) 𝓣 (function key))
+      (walk-wraps 𝓤 H A pay.ended stayed W (goes 𝓤 H A W of key) (clauses 𝓤 H A of) (Call 𝓤 H A of) key (function key) (walks 𝓤 H A W of key) 𝓣 known)

@@ -1,7 +1,7 @@
 -- Statement 3: one claim about any register sheet, any G and any list of drill calls, refused ones among them.
 use Prim.Native.Nat.{ℕ, _+_, _≤_, _<_}
 use mathlib.Core.Path.{_≡_}
-use mathlib.Core.Bool.{Bool, true, false}
+use mathlib.Core.Bool.{true}
 use mathlib.Core.List.{List, [], _∷_, _++_}
 use Rattle.waterfall.specs.Opening.{openedOf}
 use Rattle.waterfall.specs.Register.{figure}
@@ -9,25 +9,21 @@ use Rattle.waterfall.specs.Reply.{Layer, layer1, layer2, layer3, layer4, layer5
 use Rattle.waterfall.specs.declared.Register.{Register}
 use Rattle.drill.specs.Drill.{Step, Event, trace}
 use Rattle.drill.specs.Counting.{openingMargin, openingContribution, openingTranche1, openingTranche2, sheetCap, accepted, lossIn, shortIn, fallenIn, fallenBy, layerIn, layerBy, chargeOn, callOn, paidBy, replenishedBy, sumOver, lastRegister, liveAfter, calledSince}
-use Rattle.drill.specs.declared.DrillCall.{DrillCall}
 use Rattle.drill.specs.declared.DrillCall.the-variants.{Default}
 
--- the order of layers and ranks, at an accepted default `e` of `member` that comes after the events `before` ----------------------------
+-- the order of layers and ranks, at an accepted default `e` of `member` ---------------------------------------------------------------------
 
-module _ (sheet : List ℕ) (g : ℕ) (before : List Event) (e : Event) (member : ℕ) where
-  -- "other live members"
-  abbrev pub OtherLive : ℕ → Type 0
-  OtherLive n = (liveAfter sheet g before n ≡ true) × (n ≡ member → ⊥)
-
+-- `Other` are the other live members, `CalledUp` those that are called up to their cap
+module _ (Other CalledUp : ℕ → Type 0) (e : Event) (member : ℕ) where
   -- whether a layer is empty "in the register which that default gave back"; "Layer 4 is empty when every other live member's contribution is
   -- 0, layer 6 when the calls made on each since the last accepted close (or opening), this default's included, equal its cap."
   abbrev pub Empty : Layer → Type 0
   Empty layer1 = figure (e .register .margin) member ≡ 0
   Empty layer2 = figure (e .register .contribution) member ≡ 0
   Empty layer3 = e .register .first ≡ 0
-  Empty layer4 = (n : ℕ) → OtherLive n → figure (e .register .contribution) n ≡ 0
+  Empty layer4 = (n : ℕ) → Other n → figure (e .register .contribution) n ≡ 0
   Empty layer5 = e .register .second ≡ 0
-  Empty layer6 = (n : ℕ) → OtherLive n → calledSince n 0 (before ++ (e ∷ [])) ≡ sheetCap sheet g n
+  Empty layer6 = (n : ℕ) → Other n → CalledUp n
 
   -- "If a layer's total is above zero, every earlier layer is empty (..); if the shortfall is, all six are."
   -- "If a member's layer 4 charge is above zero, every other live member with a greater rank has contribution 0 in that register."
@@ -38,7 +34,17 @@ module _ (sheet : List ℕ) (g : ℕ) (before : List Event) (e : Event) (member 
     pub layer5-charged : 0 < layerIn layer5 e → Empty layer1 × Empty layer2 × Empty layer3 × Empty layer4
     pub layer6-charged : 0 < layerIn layer6 e → Empty layer1 × Empty layer2 × Empty layer3 × Empty layer4 × Empty layer5
     pub short : 0 < shortIn e → Empty layer1 × Empty layer2 × Empty layer3 × Empty layer4 × Empty layer5 × Empty layer6
-    pub by-rank : (m n : ℕ) → 0 < chargeOn m e → OtherLive n → figure (e .ranks) m < figure (e .ranks) n → figure (e .register .contribution) n ≡ 0
+    pub by-rank : (m n : ℕ) → 0 < chargeOn m e → Other n → figure (e .ranks) m < figure (e .ranks) n → figure (e .register .contribution) n ≡ 0
+
+-- by what is counted of the sheet, G, the events `before` and the default `e` itself
+module _ (sheet : List ℕ) (g : ℕ) (before : List Event) where
+  -- "other live members"
+  abbrev pub OtherLive : ℕ → ℕ → Type 0
+  OtherLive member n = (liveAfter sheet g before n ≡ true) × (n ≡ member → ⊥)
+
+  -- "the calls made on each since the last accepted close (or opening), this default's included, equal its cap"
+  abbrev pub CalledToCap : Event → ℕ → Type 0
+  CalledToCap e n = calledSince n 0 (before ++ (e ∷ [])) ≡ sheetCap sheet g n
 
 -- the statement ------------------------------------------------------------------------------------------------------------------------
 
@@ -67,6 +73,6 @@ module _ (sheet : List ℕ) (g : ℕ) (steps : List Step) where
     pub calls : (m : ℕ) → sumOver (callOn m) events ≡ sumOver (paidBy m) events + figure (last .outstanding) m + sumOver (fallenBy m) events
     -- layers and ranks are charged in order, at every accepted default of the list
     pub order : (before : List Event) (e : Event) (after : List Event) → events ≡ before ++ e ∷ after
-        → (m loss : ℕ) → e .call ≡ Default m loss → accepted e ≡ true → InOrder sheet g before e m
+        → (m loss : ℕ) → e .call ≡ Default m loss → accepted e ≡ true → InOrder (OtherLive sheet g before m) (CalledToCap sheet g before e) e m
     -- no member is called past its cap between closes: claimed of every beginning of the list, since between closes the sum only grows
     pub caps : (before after : List Event) → events ≡ before ++ after → (m : ℕ) → calledSince m 0 before ≤ sheetCap sheet g m

@@ -1,7 +1,7 @@
 -- Laws of `check`. The set `checks` has `search` find the check that holds by what is known of the numbers.
 use Prim.Native.Nat.{ℕ, _≤_, _<_}
 use mathlib.Core.Path.{_≡_, refl, sym, ap, _∙_}
-use mathlib.Core.Bool.{Bool, true, false, _||_, _&&_, not, true≢false, false≢true}
+use mathlib.Core.Bool.{Bool, true, false, _||_, _&&_, not, true≢false, false≢true, or-assoc}
 use mathlib.Core.Logic.{_⊎_, inl, inr}
 use borrow.Author.Tests.{lt-ltb, le-ltb, le-leb, lt-leb, eq-eqb, ne-eqb, ltb-false}
 use native.Mathlib.Omega.{arith}
@@ -94,3 +94,25 @@ either false b e = inr e
 pub both : (a b : Bool) → (a && b) ≡ true → (a ≡ true) × (b ≡ true)
 both true b e = (refl, e)
 both false b e = absurd (false≢true e)
+
+-- A test that is made at each place, and holds where it holds at one: `f` is what was found so far, and `here` what holds from this place on.
+pub any-turn : (f u t here rest whole : Bool) → u ≡ t → here ≡ (t || rest) → (f || here) ≡ whole → ((f || u) || rest) ≡ whole
+any-turn f u t here rest whole e s q = or-assoc f u rest ∙ ap (λ (v : Bool). f || v) (ap (λ (v : Bool). v || rest) e ∙ sym s) ∙ q
+
+pub any-done : (f rest whole : Bool) → rest ≡ false → (f || rest) ≡ whole → f ≡ whole
+any-done true rest whole h q = q
+any-done false rest whole h q = sym h ∙ q
+
+-- two rows of the same checks: of the first a number, 0 where no check holds; of the second what `of` makes of that number, `rest` where none does
+pub record Row {A : Type 0} (of : ℕ → A) (rest : A) (n : ℕ) (a : A) : Type 0 where
+  pub refused : 0 < n → a ≡ of n
+  pub passed : n ≡ 0 → a ≡ rest
+
+module _ {A : Type 0} (of : ℕ → A) (rest : A) where
+  pub row-end : Row of rest 0 rest
+  row-end = record { refused = λ h. absurd (omega arith); passed = λ e. refl }
+
+  pub row-check : (t : Bool) (n : ℕ) {m : ℕ} {a : A} → 0 < n → Row of rest m a → Row of rest (check t n m) (check t (of n) a)
+  unfolding check
+  row-check true n h w = record { refused = λ _. refl; passed = λ e. absurd (omega arith) }
+  row-check false n h w = w

@@ -2,11 +2,11 @@
 use Prim.Native.Nat.{ℕ, zero, suc, _+_, _-_, _*_, _≤_, _<_, zero-le}
 use mathlib.Core.Path.{_≡_, refl, ap, sym, _∙_}
 use mathlib.Core.Bool.{Bool, true, false, cond, false≢true}
-use mathlib.Core.List.{List, [], _∷_, _++_, map}
+use mathlib.Core.List.{List, [], _∷_, map}
 use native.Mathlib.Nat.{add-assoc, mul-suc}
 use native.Mathlib.Numerals.{add-one}
 use native.Mathlib.Omega.{arith}
-use lib.ListN.{length, getD, take, drop, set, replicate, drop-of-length-le}
+use lib.ListN.{length, getD, drop, set, replicate, drop-of-length-le}
 use lib.Seq.{drop-cons}
 use Rattle.lists.specs.Sums.{total, plus, minus, keep}
 
@@ -145,7 +145,7 @@ length-keep [] xs e = e
 length-keep (b ∷ bs) [] e = refl
 length-keep (b ∷ bs) (x ∷ xs) e = ap suc (length-keep bs xs (omega arith))
 
-cond-none : (b : Bool) → _≡_ {A = ℕ} 0 (cond b 0 0)
+pub cond-none : (b : Bool) → _≡_ {A = ℕ} 0 (cond b 0 0)
 cond-none true = refl
 cond-none false = refl
 

@@ -1,5 +1,5 @@
 -- The limits of document 01, each once. Money is whole thousands of rupees.
-use Prim.Native.Nat.{ℕ, _+_}
+use Prim.Native.Nat.{ℕ}
 
 -- "Members are numbered 1 to 64."
 abbrev pub memberLimit : ℕ

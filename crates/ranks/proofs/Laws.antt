@@ -1,9 +1,9 @@
 -- The laws of `chargesOf`: what the callers of `charge_by_rank` know of the charges. Those above, of `chargesFrom`, lead to them by
 -- induction on the rank.
 use Prim.Native.Nat.{ℕ, zero, suc, _+_, _-_, _≤_, _<_, min}
-use mathlib.Core.Path.{_≡_, ap, sym, _∙_}
-use mathlib.Core.Bool.{false}
-use mathlib.Core.List.{List, map}
+use mathlib.Core.Path.{_≡_, refl, ap, sym, _∙_}
+use mathlib.Core.Bool.{Bool, true, false, cond}
+use mathlib.Core.List.{List, [], _∷_, map}
 use mathlib.Core.Logic.{⊎-elim}
 use native.Mathlib.Nat.{eq-or-lt-of-le, eq-zero-or-pos}
 use native.Mathlib.Omega.{arith}
@@ -11,8 +11,8 @@ use lib.Dec.{eqb}
 use lib.ListN.{length, getD, length-replicate, length-map, List·getD-map}
 use borrow.Author.Tests.{eq-eqb, ne-eqb}
 use Rattle.lists.specs.Limits.{rankLimit}
-use Rattle.lists.specs.Sums.{total}
-use Rattle.lists.proofs.Sums.{getD-le-total, total-zeros, getD-zeros, total-le, length-plus, getD-plus, total-plus, length-keep, keep-le, kept, unkept}
+use Rattle.lists.specs.Sums.{total, keep}
+use Rattle.lists.proofs.Sums.{getD-le-total, total-zeros, getD-zeros, total-le, length-plus, getD-plus, total-plus, length-keep, keep-le, kept, unkept, cond-none}
 use Rattle.split.specs.Split.{splitOf}
 use Rattle.split.proofs.Laws.{length-split, split-none, total-within, split-within, split-whole}
 use Rattle.ranks.specs.Ranks.{atRank, rankGives, chargesFrom, chargesOf}
@@ -149,6 +149,27 @@ module _ (ws rs : List ℕ) where
       (λ e. from-whole q l j (omega (arith, from-le-sum q n i)) e)
       (λ h. from-below q l j h ∙ from-juniors q n i j a (omega arith) o)
       (eq-or-lt-of-le b)
+
+-- ranks that are not read --------------------------------------------------------
+
+-- to leave out a rank is to leave out its weight
+at-unread : (q : ℕ) (bs : List Bool) (ws rs : List ℕ) → atRank (suc q) ws (keep bs rs) ≡ atRank (suc q) (keep bs ws) rs
+at-unread q [] ws [] = refl
+at-unread q [] ws (r ∷ rs) = refl
+at-unread q (b ∷ bs) ws [] = refl
+at-unread q (b ∷ bs) [] (r ∷ rs) = refl
+at-unread q (true ∷ bs) (w ∷ ws) (r ∷ rs) = ap (λ (xs : List ℕ). cond (eqb (suc q) r) w 0 ∷ xs) (at-unread q bs ws rs)
+at-unread q (false ∷ bs) (w ∷ ws) (r ∷ rs) = rw (ne-eqb (suc q) 0 (λ e. omega arith), ← cond-none (eqb (suc q) r), at-unread q bs ws rs)
+
+module _ (bs : List Bool) (ws rs : List ℕ) (e : length (keep bs ws) ≡ length ws) where
+  from-unread : (q l : ℕ) → chargesFrom q l ws (keep bs rs) ≡ chargesFrom q l (keep bs ws) rs
+  unfolding chargesFrom
+  from-unread zero l = rw e
+  from-unread (suc q) l = rw (at-unread q bs ws rs, from-unread q)
+
+  pub charges-unread : (sum : ℕ) → chargesOf sum ws (keep bs rs) ≡ chargesOf sum (keep bs ws) rs
+  unfolding chargesOf
+  charges-unread sum = from-unread rankLimit sum
 
 -- what callers cite --------------------------------------------------------------
 

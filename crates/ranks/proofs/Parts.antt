@@ -7,41 +7,24 @@ use mathlib.Core.Logic.{⊎-elim}
 use native.Mathlib.Nat.{eq-or-lt-of-le, sub-zero}
 use native.Mathlib.Numerals.{add-one, sub-one}
 use native.Mathlib.Omega.{arith}
-use lib.Dec.{eqb, leb, ltb}
+use lib.Dec.{eqb, ltb}
 use lib.ListN.{length, getD, take, drop, set, replicate, drop-of-length-le, length-replicate, length-map}
 use lib.Seq.{drop-cons, getD-set-same, getD-set-other, drop-set-lt}
-use borrow.Author.Tests.{eq-eqb, ne-eqb, eqb-true, eqb-false, lt-ltb, le-ltb, leb-true, leb-false}
-use Rattle.lists.specs.Limits.{memberLimit, rankLimit, amountLimit, allocationLimit}
+use borrow.Author.Tests.{eq-eqb, ne-eqb, eqb-true, eqb-false, lt-ltb, le-ltb}
+use Rattle.lists.specs.Limits.{rankLimit, amountLimit}
 use Rattle.lists.specs.Sums.{total, plus, keep}
 use Rattle.lists.proofs.Fill.{fill-turn, fill-done}
-use Rattle.lists.proofs.Sums.{total-zeros, getD-zeros, total-plus, plus-assoc, plus-none, none-plus, length-keep, keep-le, cond-le, keep-map-step}
-use Rattle.split.specs.Split.{Splits, splitOf}
-use Rattle.split.proofs.Laws.{total-within, total-of-none, split-whole}
+use Rattle.lists.proofs.Sums.{zeros, all-zeros, total-zeros, getD-zeros, total-plus, plus-assoc, plus-none, none-plus, length-keep, keep-le, cond-le, keep-map-step}
+use Rattle.split.specs.Split.{Splits, splitOf, exceeds}
+use Rattle.split.proofs.Laws.{length-split, total-within, total-of-none, split-within, split-whole, exceeds-none}
 use Rattle.ranks.specs.Ranks.{atRank, rankGives, chargesFrom, chargesOf}
-use Rattle.ranks.specs.Parts.{Weighed, Totals, Next, Marginal, rankOf, aboveRank}
+use Rattle.ranks.specs.Parts.{Weighed, Totals, Next, Marginal, Shared, aboveRank}
 use Rattle.ranks.proofs.Laws.{by-order, length-at, length-shares, length-from, total-from}
 
 pub matched : (ws rs : List ℕ) → Weighed ws rs → length rs ≡ length ws
 matched ws rs w = w .as-many ∙ sym (w .long)
 
 -- the totals by rank ---------------------------------------------------------------
-
--- a byte above the limit is at none of the ranks
-rank-test : (q r : ℕ) → 0 < q → q ≤ rankLimit → eqb q r ≡ eqb q (rankOf r)
-rank-test q r p h = go (leb r rankLimit) refl
-  where
-    go : (b : Bool) → leb r rankLimit ≡ b → eqb q r ≡ eqb q (cond b r 0)
-    go true e = refl
-    go false e =
-        let n : rankLimit < r = leb-false r rankLimit e in
-        ne-eqb q r (λ x. omega arith) ∙ sym (ne-eqb q 0 (λ x. omega arith))
-
-pub rank-of-le : (r : ℕ) → rankOf r ≤ rankLimit
-rank-of-le r = go (leb r rankLimit) refl
-  where
-    go : (b : Bool) → leb r rankLimit ≡ b → cond b r 0 ≤ rankLimit
-    go true e = leb-true r rankLimit e
-    go false e = zero-le
 
 -- a number of a table raised
 raised : (ts : List ℕ) (p w q : ℕ) → p < length ts → getD (set ts p (getD ts p 0 + w)) q 0 ≡ getD ts q 0 + cond (eqb q p) w 0
@@ -59,13 +42,13 @@ Adding ts ws rs i =
     ((q : ℕ) → 0 < q → q ≤ rankLimit → getD ts q 0 + total (atRank q (drop i ws) (drop i rs)) ≡ total (atRank q ws rs))
     × ((q : ℕ) → getD ts q 0 ≤ amountLimit * i)
 
-pub adding-turn : (ts ws rs : List ℕ) (i p : ℕ) → i < length ws → i < length rs → p < length ts → p ≡ rankOf (getD rs i 0) → getD ws i 0 ≤ amountLimit
+pub adding-turn : (ts ws rs : List ℕ) (i p : ℕ) → i < length ws → i < length rs → p < length ts → p ≡ getD rs i 0 → getD ws i 0 ≤ amountLimit
     → Adding ts ws rs i → Adding (set ts p (getD ts p 0 + getD ws i 0)) ws rs (i + 1)
 adding-turn ts ws rs i p hw hr ht e b (t, m) = (turn, bound)
   where
     turn : (q : ℕ) → 0 < q → q ≤ rankLimit → getD (set ts p (getD ts p 0 + getD ws i 0)) q 0 + total (atRank q (drop (i + 1) ws) (drop (i + 1) rs)) ≡ total (atRank q ws rs)
     turn q a h =
-        let same : eqb q (getD rs i 0) ≡ eqb q p = rank-test q (getD rs i 0) a h ∙ ap (eqb q) (sym e) in
+        let same : eqb q (getD rs i 0) ≡ eqb q p = ap (eqb q) (sym e) in
         omega (
           arith,
           raised ts p (getD ws i 0) q ht,
@@ -97,46 +80,51 @@ passed-more ts at from z h p a b =
 
 -- the marginal rank's split ----------------------------------------------------------
 
-pub shares-asked : (rank part whole : ℕ) (ws rs own shares : List ℕ) → Weighed ws rs → part ≤ allocationLimit → whole ≡ total (atRank rank ws rs)
-    → own ≡ atRank rank ws rs → length shares ≡ memberLimit → Splits part whole own shares
-shares-asked rank part whole ws rs own shares w p t e n =
+pub shares-asked : (rank part whole : ℕ) (ws rs own charges : List ℕ) → Weighed ws rs → Shared part whole (atRank rank ws rs) charges → 0 < part
+    → own ≡ atRank rank ws rs → Splits part whole own charges
+shares-asked rank part whole ws rs own charges w s p e =
     let l : length (atRank rank ws rs) ≡ length ws = length-at rank ws rs (matched ws rs w) in
     rw e
     record {
-      sum-fits = p;
-      whole-is = t;
+      sum-fits = s .part-fits;
+      whole-is = s .whole-is p;
       weights-fit = λ k. omega (arith, keep-le (map (eqb rank) rs) ws k, w .weights-fit k);
       few = omega (arith, w .long);
-      as-many = omega (arith, w .long);
+      as-many = omega (arith, w .long, s .long);
     }
+
+-- where a rank gives nothing, its shares are all 0
+pub unshared : (part : ℕ) (own charges : List ℕ) → part ≡ 0 → length charges ≡ length own → total charges ≡ 0
+    → (charges ≡ splitOf part own) × (false ≡ exceeds (splitOf part own) own)
+unshared part own charges z n t = (
+  all-zeros charges t ∙ zeros (length charges) (splitOf part own) (length-split part own ∙ sym n) (total-within part own (omega arith) ∙ z),
+  sym (exceeds-none (splitOf part own) own (split-within part own (omega arith))),
+)
 
 -- what is charged whole ---------------------------------------------------------------
 
 -- the weights above a rank are those above it and those at it, one rank further down
-above-place : (q r w : ℕ) → suc q ≤ rankLimit → cond (ltb (suc q) (rankOf r)) w 0 + cond (eqb (suc q) r) w 0 ≡ cond (ltb q (rankOf r)) w 0
-above-place q r w h = simp (rank-test (suc q) r (omega arith) h) (go (rankOf r))
-  where
-    go : (p : ℕ) → cond (ltb (suc q) p) w 0 + cond (eqb (suc q) p) w 0 ≡ cond (ltb q p) w 0
-    go p =
-        by-order
-        (suc q)
-        p
-        (λ l. simp (lt-ltb (suc q) p l, ne-eqb (suc q) p (λ e. omega arith), lt-ltb q p (omega arith)) (omega arith))
-        (λ e. simp (le-ltb (suc q) p (omega arith), eq-eqb (suc q) p e, lt-ltb q p (omega arith)) (omega arith))
-        (λ g. simp (le-ltb (suc q) p (omega arith), ne-eqb (suc q) p (λ e. omega arith), le-ltb q p (omega arith)))
+above-place : (q r w : ℕ) → cond (ltb (suc q) r) w 0 + cond (eqb (suc q) r) w 0 ≡ cond (ltb q r) w 0
+above-place q r w =
+    by-order
+    (suc q)
+    r
+    (λ l. simp (lt-ltb (suc q) r l, ne-eqb (suc q) r (λ e. omega arith), lt-ltb q r (omega arith)) (omega arith))
+    (λ e. simp (le-ltb (suc q) r (omega arith), eq-eqb (suc q) r e, lt-ltb q r (omega arith)) (omega arith))
+    (λ g. simp (le-ltb (suc q) r (omega arith), ne-eqb (suc q) r (λ e. omega arith), le-ltb q r (omega arith)))
 
-above-down : (q : ℕ) (ws rs : List ℕ) → suc q ≤ rankLimit → plus (aboveRank (suc q) ws rs) (atRank (suc q) ws rs) ≡ aboveRank q ws rs
-above-down q ws [] h = refl
-above-down q [] (r ∷ rs) h = refl
-above-down q (w ∷ ws) (r ∷ rs) h = rw (above-place q r w h, above-down q ws rs h)
+above-down : (q : ℕ) (ws rs : List ℕ) → plus (aboveRank (suc q) ws rs) (atRank (suc q) ws rs) ≡ aboveRank q ws rs
+above-down q ws [] = refl
+above-down q [] (r ∷ rs) = refl
+above-down q (w ∷ ws) (r ∷ rs) = rw (above-place q r w, above-down q ws rs)
 
-above-none : (ws rs : List ℕ) → total (aboveRank rankLimit ws rs) ≡ 0
-above-none ws [] = refl
-above-none [] (r ∷ rs) = refl
-above-none (w ∷ ws) (r ∷ rs) = rw (le-ltb rankLimit (rankOf r) (rank-of-le r)) (omega (arith, above-none ws rs))
+above-none : (ws rs : List ℕ) → ((k : ℕ) → getD rs k 0 ≤ rankLimit) → total (aboveRank rankLimit ws rs) ≡ 0
+above-none ws [] h = refl
+above-none [] (r ∷ rs) h = refl
+above-none (w ∷ ws) (r ∷ rs) h = rw (le-ltb rankLimit r (h 0)) (omega (arith, above-none ws rs (λ k. h (suc k))))
 
-length-above : (q : ℕ) (ws rs : List ℕ) → length rs ≡ length ws → length (aboveRank q ws rs) ≡ length ws
-length-above q ws rs e = length-keep (map (λ (r : ℕ). ltb q (rankOf r)) rs) ws (length-map rs (λ (r : ℕ). ltb q (rankOf r)) ∙ e)
+pub length-above : (q : ℕ) (ws rs : List ℕ) → length rs ≡ length ws → length (aboveRank q ws rs) ≡ length ws
+length-above q ws rs e = length-keep (map (ltb q) rs) ws (length-map rs (ltb q) ∙ e)
 
 -- numbers added to a list in place, one a turn
 pub add-turn : (f : ℕ → Bool) (rs ws out r : List ℕ) (i x s : ℕ) → i < length rs → i < length ws → i < length out → x ≡ cond (f (getD rs i 0)) (getD ws i 0) 0
@@ -180,39 +168,39 @@ module _ (ws rs : List ℕ) where
       (omega (arith, total-from ws rs q 0)))
 
 module _ (sum : ℕ) (ws rs : List ℕ) where
-  going-down : (q l t : ℕ) → suc q ≤ rankLimit → t ≡ total (atRank (suc q) ws rs) → t ≤ l → Going sum ws rs (suc q) l → Going sum ws rs q (l - t)
-  going-down q l t h e m g =
+  going-down : (q l t : ℕ) → t ≡ total (atRank (suc q) ws rs) → t ≤ l → Going sum ws rs (suc q) l → Going sum ws rs q (l - t)
+  going-down q l t e m g =
       record {
-        charges = cc (above-down q ws rs h, plus-assoc (aboveRank (suc q) ws rs) (atRank (suc q) ws rs) (chargesFrom q (l - t) ws rs), from-enough ws rs q l t e m, g .charges);
-        given = omega (arith, ap total (above-down q ws rs h), total-plus (aboveRank (suc q) ws rs) (atRank (suc q) ws rs), g .given);
+        charges = cc (above-down q ws rs, plus-assoc (aboveRank (suc q) ws rs) (atRank (suc q) ws rs) (chargesFrom q (l - t) ws rs), from-enough ws rs q l t e m, g .charges);
+        given = omega (arith, ap total (above-down q ws rs), total-plus (aboveRank (suc q) ws rs) (atRank (suc q) ws rs), g .given);
       }
 
-  pub going-turn : (q l t : ℕ) → 0 < q → q ≤ rankLimit → t ≡ total (atRank q ws rs) → t ≤ l → Going sum ws rs q l → Going sum ws rs (q - 1) (l - t)
-  going-turn zero l t p h e m g = absurd (omega arith)
-  going-turn (suc q) l t p h e m g = rw sub-one (going-down q l t h e m g)
+  pub going-turn : (q l t : ℕ) → 0 < q → t ≡ total (atRank q ws rs) → t ≤ l → Going sum ws rs q l → Going sum ws rs (q - 1) (l - t)
+  going-turn zero l t p e m g = absurd (omega arith)
+  going-turn (suc q) l t p e m g = rw sub-one (going-down q l t e m g)
 
   -- ranks that have nothing are passed
-  going-skip : (q n l : ℕ) → q ≤ rankLimit → n ≤ q → ((p : ℕ) → n < p → p ≤ q → total (atRank p ws rs) ≡ 0) → Going sum ws rs q l → Going sum ws rs n l
-  going-skip zero n l h a z g =
+  going-skip : (q n l : ℕ) → n ≤ q → ((p : ℕ) → n < p → p ≤ q → total (atRank p ws rs) ≡ 0) → Going sum ws rs q l → Going sum ws rs n l
+  going-skip zero n l a z g =
       let e : n ≡ 0 = omega arith in
       rw e g
-  going-skip (suc q) n l h a z g =
+  going-skip (suc q) n l a z g =
       ⊎-elim
       (λ e. rw e g)
-      (λ b. going-skip q n l (omega arith) (omega arith) (λ p x y. z p x (omega arith)) (rw sub-zero at (going-down q l 0 h (sym (z (suc q) b (omega arith))) zero-le g)))
+      (λ b. going-skip q n l (omega arith) (λ p x y. z p x (omega arith)) (rw sub-zero at (going-down q l 0 (sym (z (suc q) b (omega arith))) zero-le g)))
       (eq-or-lt-of-le a)
 
   pub going-next : (ts : List ℕ) (q n l : ℕ) → q ≤ rankLimit → Totals ts ws rs → Next ts q n → Going sum ws rs q l → Going sum ws rs n l
   going-next ts q n l h t x g =
-      going-skip q n l h (x .at-most) (λ p a b. sym (t .each p (omega arith) (omega arith)) ∙ x .passed p a b) g
+      going-skip q n l (x .at-most) (λ p a b. sym (t .each p (omega arith) (omega arith)) ∙ x .passed p a b) g
 
   module _ (same : length rs ≡ length ws) where
-    pub going-start : Going sum ws rs rankLimit sum
+    pub going-start : ((k : ℕ) → getD rs k 0 ≤ rankLimit) → Going sum ws rs rankLimit sum
     unfolding chargesOf
-    going-start =
+    going-start h =
         record {
-          charges = plus-none (aboveRank rankLimit ws rs) (chargesFrom rankLimit sum ws rs) (omega (arith, length-above rankLimit ws rs same, length-from ws rs rankLimit sum same)) (above-none ws rs);
-          given = omega (arith, above-none ws rs);
+          charges = plus-none (aboveRank rankLimit ws rs) (chargesFrom rankLimit sum ws rs) (omega (arith, length-above rankLimit ws rs same, length-from ws rs rankLimit sum same)) (above-none ws rs h);
+          given = omega (arith, above-none ws rs h);
         }
 
     pub going-part : (q l t : ℕ) → 0 < q → t ≡ total (atRank q ws rs) → l < t → Going sum ws rs q l → Marginal sum ws rs q l t sum
@@ -224,6 +212,9 @@ module _ (sum : ℕ) (ws rs : List ℕ) where
           charged-is = omega (arith, ap total c, total-plus (aboveRank (suc q) ws rs) (splitOf l (atRank (suc q) ws rs)), total-within l (atRank (suc q) ws rs) (omega arith), g .given);
           whole-is = λ x. e;
           part-fits = omega (arith, g .given);
+          part-within = omega arith;
+          above-is = omega (arith, g .given);
+          charged-least = omega (arith, g .given);
         }
 
     pub going-done : (q l : ℕ) → q ≤ 0 → Going sum ws rs q l → Marginal sum ws rs 0 0 0 (sum - l)
@@ -240,5 +231,8 @@ module _ (sum : ℕ) (ws rs : List ℕ) where
           charged-is = omega (arith, ap total c, g .given);
           whole-is = λ x. omega arith;
           part-fits = zero-le;
+          part-within = zero-le;
+          above-is = omega (arith, g .given);
+          charged-least = zero-le;
         }
     going-done (suc q) l z g = absurd (omega arith)

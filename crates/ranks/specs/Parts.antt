@@ -1,12 +1,11 @@
 -- What the parts of `charge_by_rank` promise each other. At most one rank, the marginal one, is charged in part: those above it are charged
 -- whole, and those below it nothing.
-use Prim.Native.Nat.{ℕ, _≤_, _<_}
+use Prim.Native.Nat.{ℕ, _-_, _≤_, _<_}
 use mathlib.Core.Path.{_≡_}
-use mathlib.Core.Bool.{cond}
 use mathlib.Core.List.{List, map}
-use lib.Dec.{leb, ltb}
+use lib.Dec.{ltb}
 use lib.ListN.{length, getD}
-use Rattle.lists.specs.Limits.{memberLimit, rankLimit, amountLimit}
+use Rattle.lists.specs.Limits.{memberLimit, rankLimit, amountLimit, allocationLimit}
 use Rattle.lists.specs.Sums.{total, plus, keep}
 use Rattle.split.specs.Split.{splitOf}
 use Rattle.ranks.specs.Ranks.{atRank, chargesOf}
@@ -16,14 +15,11 @@ pub record Weighed (weights ranks : List ℕ) : Type 0 where
   pub weights-fit : (k : ℕ) → getD weights k 0 ≤ amountLimit
   pub long : length weights ≡ memberLimit
   pub as-many : length ranks ≡ memberLimit
-
--- a byte's rank, and 0 where it is above the limit, so no rank
-abbrev pub rankOf : ℕ → ℕ
-rankOf r = cond (leb r rankLimit) r 0
+  pub ranks-fit : (k : ℕ) → getD ranks k 0 ≤ rankLimit
 
 -- the weights of the ranks above q, and 0 for the others
 abbrev pub aboveRank : ℕ → List ℕ → List ℕ → List ℕ
-aboveRank q weights ranks = keep (map (λ (r : ℕ). ltb q (rankOf r)) ranks) weights
+aboveRank q weights ranks = keep (map (ltb q) ranks) weights
 
 -- a table has the total of each rank's weights
 pub record Totals (totals weights ranks : List ℕ) : Type 0 where
@@ -41,3 +37,14 @@ pub record Marginal (sum : ℕ) (weights ranks : List ℕ) (rank part whole char
   pub charged-is : charged ≡ total (chargesOf sum weights ranks)
   pub whole-is : 0 < part → whole ≡ total (atRank rank weights ranks)
   pub part-fits : part ≤ sum
+  pub part-within : part ≤ total (atRank rank weights ranks)
+  pub above-is : charged - part ≡ total (aboveRank rank weights ranks)
+  pub charged-least : part ≤ charged
+
+-- a part of what a rank has is shared over its weights, into charges that are all 0
+pub record Shared (part whole : ℕ) (own charges : List ℕ) : Type 0 where
+  pub part-fits : part ≤ allocationLimit
+  pub part-within : part ≤ total own
+  pub whole-is : 0 < part → whole ≡ total own
+  pub long : length charges ≡ memberLimit
+  pub none : total charges ≡ 0

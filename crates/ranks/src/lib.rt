@@ -9,49 +9,40 @@ ghost use lib.Dec.{eqb, ltb};
 ghost use lib.ListN.{length, getD};
 ghost use Rattle.lists.specs.Limits.{memberLimit, rankLimit, allocationLimit};
 ghost use Rattle.lists.specs.Sums.{total, plus};
-ghost use Rattle.split.specs.Split.{splitOf};
+ghost use Rattle.split.specs.Split.{splitOf, exceeds};
 ghost use Rattle.ranks.specs.Ranks.{Charges, atRank, chargesOf};
-ghost use Rattle.ranks.specs.Parts.{Weighed, Totals, Next, Marginal, rankOf, aboveRank};
+ghost use Rattle.ranks.specs.Parts.{Weighed, Totals, Next, Marginal, Shared, aboveRank};
 
-// The charges, place by place, and their total.
+// The charges, place by place, their total, and whether one comes out above its weight.
 pub struct Charged {
     pub charges: [u64; 64],
     pub total: u64,
+    pub over: bool,
 }
 
 // The marginal rank (0: none), what it gives, all that it has, and the total of all the charges.
 struct Margin {
-    rank: usize,
+    rank: u8,
     part: u64,
     whole: u64,
     total: u64,
 }
 
-// A byte as a rank. Bytes above the limit, 255 among them, are no rank: they count as 0, which is never charged.
-fn rank_of(byte: u8) -> usize
-    ensures { λ r. ⌜ r ≡ rankOf byte ⌝ }
-{
-    if byte > 64 {
-        return 0;
-    }
-    byte as usize
-}
-
-// The weights added up by rank. What has no rank adds to place 0, which nobody reads.
+// The weights added up by rank. What has no rank, 0, adds to place 0, which nobody reads.
 fn rank_totals(weights: &[u64; 64], ranks: &[u8]) -> [u64; 65]
     requires { ⌜ Weighed (now weights) (now ranks) ⌝ }
     ensures { λ r. ⌜ Totals r (now (weights .entry)) (now (ranks .entry)) ⌝ }
 {
     let mut totals = [0u64; 65];
     for i in 0..64 {
-        let rank = rank_of(ranks[i]);
+        let rank = ranks[i] as usize;
         totals[rank] += weights[i];
     }
     totals
 }
 
 // The highest rank, `from` at most, whose total is above 0; 0 where there is none.
-fn next_rank(totals: &[u64; 65], from: usize) -> usize
+fn next_rank(totals: &[u64; 65], from: u8) -> u8
     requires { ⌜ from ≤ rankLimit ⌝ }
     ensures { λ r. ⌜ Next (now (totals .entry)) from r ⌝ }
 {
@@ -60,7 +51,8 @@ fn next_rank(totals: &[u64; 65], from: usize) -> usize
         if at == 0 {
             break 0;
         }
-        if totals[at] > 0 {
+        let place = at as usize;
+        if totals[place] > 0 {
             break at;
         }
         at -= 1;
@@ -77,7 +69,8 @@ fn marginal(sum: u64, weights: &[u64; 64], ranks: &[u8]) -> Margin
     let mut left = sum;
     let mut rank = next_rank(&totals, 64);
     while rank > 0 {
-        let whole = totals[rank];
+        let place = rank as usize;
+        let whole = totals[place];
         if left < whole {
             return Margin {
                 rank,
@@ -98,17 +91,17 @@ fn marginal(sum: u64, weights: &[u64; 64], ranks: &[u8]) -> Margin
 }
 
 // A member's weight where the rank is its own, and else 0.
-fn weight_at(rank: usize, byte: u8, weight: u64) -> u64
+fn weight_at(rank: u8, byte: u8, weight: u64) -> u64
     ensures { λ r. ⌜ r ≡ cond (eqb rank byte) weight 0 ⌝ }
 {
-    if rank == byte as usize {
+    if rank == byte {
         return weight;
     }
     0
 }
 
 // The weights of one rank, and 0 for the others.
-fn weights_at(rank: usize, weights: &[u64; 64], ranks: &[u8]) -> [u64; 64]
+fn weights_at(rank: u8, weights: &[u64; 64], ranks: &[u8]) -> [u64; 64]
     requires { ⌜ Weighed (now weights) (now ranks) ⌝ }
     ensures { λ r. ⌜ r ≡ atRank rank (now (weights .entry)) (now (ranks .entry)) ⌝ }
 {
@@ -119,37 +112,46 @@ fn weights_at(rank: usize, weights: &[u64; 64], ranks: &[u8]) -> [u64; 64]
     own
 }
 
-// What the marginal rank gives, shared over its members' weights. Where it gives nothing, nothing is split.
-fn shares(rank: usize, part: u64, whole: u64, weights: &[u64; 64], ranks: &[u8]) -> [u64; 64]
-    requires { ⌜ Weighed (now weights) (now ranks) ⌝ }
-    requires { ⌜ (part ≤ allocationLimit) × (0 < part → whole ≡ total (atRank rank (now weights) (now ranks))) ⌝ }
-    ensures { λ r. ⌜ r ≡ splitOf part (atRank rank (now (weights .entry)) (now (ranks .entry))) ⌝ }
+// What the marginal rank gives, shared over its members' weights: the charges, so far all 0, become its shares. The answer is whether a share
+// comes out above its weight. Where the rank gives nothing, nothing is split.
+fn share_marginal(
+    rank: u8,
+    part: u64,
+    whole: u64,
+    weights: &[u64; 64],
+    ranks: &[u8],
+    charges: &mut [u64; 64],
+) -> bool
+    requires { ⌜ Weighed (now weights) (now ranks) × Shared part whole (atRank rank (now weights) (now ranks)) (now charges) ⌝ }
+    ensures { λ _. ⌜ now (charges .exit) ≡ splitOf part (atRank rank (now (weights .entry)) (now (ranks .entry))) ⌝ }
+    ensures { λ r. ⌜ r ≡ exceeds (splitOf part (atRank rank (now (weights .entry)) (now (ranks .entry)))) (atRank rank (now (weights .entry)) (now (ranks .entry))) ⌝ }
 {
-    let mut shares = [0u64; 64];
     if part == 0 {
-        return shares;
+        return false;
     }
     let own = weights_at(rank, weights, ranks);
-    split::split(part, whole, &own, &mut shares);
-    shares
+    split::split(part, whole, &own, charges)
 }
 
 // A member's weight where its own rank is above, and else 0.
-fn weight_above(rank: usize, byte: u8, weight: u64) -> u64
-    ensures { λ r. ⌜ r ≡ cond (ltb rank (rankOf byte)) weight 0 ⌝ }
+fn weight_above(rank: u8, byte: u8, weight: u64) -> u64
+    ensures { λ r. ⌜ r ≡ cond (ltb rank byte) weight 0 ⌝ }
 {
-    if rank < rank_of(byte) {
+    if rank < byte {
         return weight;
     }
     0
 }
 
-// The ranks above are charged whole: their weights are added to the charges.
-fn charge_above(rank: usize, weights: &[u64; 64], ranks: &[u8], charges: &mut [u64; 64])
-    requires { ⌜ Weighed (now weights) (now ranks) ⌝ }
+// The ranks above are charged whole: their weights, `above` together, are added to the charges. Where they have nothing, nothing is added.
+fn charge_above(rank: u8, above: u64, weights: &[u64; 64], ranks: &[u8], charges: &mut [u64; 64])
+    requires { ⌜ Weighed (now weights) (now ranks) × (above ≡ total (aboveRank rank (now weights) (now ranks))) ⌝ }
     requires { ⌜ (length (now charges) ≡ memberLimit) × ((k : ℕ) → getD (now charges) k 0 ≤ allocationLimit) ⌝ }
     ensures { λ _. ⌜ now (charges .exit) ≡ plus (aboveRank rank (now (weights .entry)) (now (ranks .entry))) (now (charges .entry)) ⌝ }
 {
+    if above == 0 {
+        return;
+    }
     for i in 0..64 {
         let whole = weight_above(rank, ranks[i], weights[i]);
         charges[i] += whole;
@@ -157,21 +159,38 @@ fn charge_above(rank: usize, weights: &[u64; 64], ranks: &[u8], charges: &mut [u
 }
 
 // `sum` charged to `weights` by rank. The total needs no second addition: it is the sum, less what no rank could give.
-pub fn charge_by_rank(sum: u64, weights: [u64; 64], ranks: &[u8]) -> Charged
-    requires { ⌜ Charges sum weights (now ranks) ⌝ }
-    ensures { λ r. ⌜ (r .charges ≡ chargesOf sum weights (now (ranks .entry))) × (r .total ≡ total (r .charges)) ⌝ }
+pub fn charge_by_rank(sum: u64, weights: &[u64; 64], ranks: &[u8]) -> Charged
+    requires { ⌜ Charges sum (now weights) (now ranks) ⌝ }
+    ensures { λ r. ⌜ (r .charges ≡ chargesOf sum (now (weights .entry)) (now (ranks .entry))) × (r .total ≡ total (r .charges)) ⌝ }
+    ensures { λ r. ⌜ r .over ≡ exceeds (r .charges) (now (weights .entry)) ⌝ }
 {
+    let mut charges = [0u64; 64];
     if sum == 0 {
         return Charged {
-            charges: [0u64; 64],
+            charges,
             total: 0,
+            over: false,
         };
     }
-    let margin = marginal(sum, &weights, ranks);
-    let mut charges = shares(margin.rank, margin.part, margin.whole, &weights, ranks);
-    charge_above(margin.rank, &weights, ranks, &mut charges);
+    let margin = marginal(sum, weights, ranks);
+    let over = share_marginal(
+        margin.rank,
+        margin.part,
+        margin.whole,
+        weights,
+        ranks,
+        &mut charges,
+    );
+    charge_above(
+        margin.rank,
+        margin.total - margin.part,
+        weights,
+        ranks,
+        &mut charges,
+    );
     Charged {
         charges,
         total: margin.total,
+        over,
     }
 }

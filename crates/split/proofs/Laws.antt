@@ -1,17 +1,20 @@
 -- The laws of `splitOf`: what the callers of `split` know of its shares.
 use Prim.Native.Nat.{ℕ, zero, suc, _+_, _-_, _*_, _/_, _≤_, _<_, zero-le}
-use mathlib.Core.Path.{_≡_, refl, ap, sym, _∙_}
+use mathlib.Core.Path.{_≡_, refl, ap, _∙_}
+use mathlib.Core.Bool.{false, _||_}
 use mathlib.Core.List.{List, [], _∷_, _++_}
 use mathlib.Core.Logic.{⊎-elim}
-use native.Mathlib.Nat.{mul-add, mul-comm, mul-zero, zero-mul, zero-div, mul-le-mul-left, mul-le-mul-right, div-le-of-le-mul, mul-div-right, mul-div-left, le-div-iff-mul-le, eq-zero-or-pos, sub-zero}
+use native.Mathlib.Nat.{mul-add, mul-comm, zero-mul, zero-div, mul-le-mul-left, mul-le-mul-right, div-le-of-le-mul, mul-div-right, mul-div-left, le-div-iff-mul-le, eq-zero-or-pos, sub-zero}
 use native.Mathlib.Numerals.{add-one}
 use native.Mathlib.Omega.{arith}
+use borrow.Author.Tests.{le-ltb}
+use lib.Dec.{ltb}
 use lib.ListN.{length, getD, take, drop, set, drop-of-length-le}
 use lib.Seq.{drop-cons}
 use Rattle.lists.specs.Sums.{total}
 use Rattle.lists.proofs.Fill.{fill-turn, fill-done}
 use Rattle.lists.proofs.Sums.{getD-le-total}
-use Rattle.split.specs.Split.{shareOf, splitOf}
+use Rattle.split.specs.Split.{shareOf, splitOf, exceeds}
 
 -- one share ------------------------------------------------------------------
 
@@ -74,6 +77,16 @@ pub split-turn : (l : ℕ) (ws out r : List ℕ) (k t s : ℕ) → k < length ws
     → take k out ++ splitOf l (drop k ws) ≡ r
     → take (k + 1) (set out k s) ++ splitOf (l - s) (drop (k + 1) ws) ≡ r
 split-turn l ws out r k t s hw ho f e h = fill-turn out r _ _ k s ho (split-step l ws k s hw (rw f at e)) h
+
+-- a share that is above its weight here, or one that is further on
+pub exceeds-turn : (l : ℕ) (ws : List ℕ) (k t s : ℕ) → k < length ws → t ≡ total (drop k ws) → s ≡ shareOf l (getD ws k 0) t
+    → exceeds (splitOf l (drop k ws)) (drop k ws) ≡ (ltb (getD ws k 0) s || exceeds (splitOf (l - s) (drop (k + 1) ws)) (drop (k + 1) ws))
+unfolding exceeds
+exceeds-turn l ws k t s h f e = rw (split-step l ws k s h (rw f at e), add-one, drop-cons ws k 0)
+
+pub exceeds-end : (l : ℕ) (ws : List ℕ) (k : ℕ) → length ws ≤ k → exceeds (splitOf l (drop k ws)) (drop k ws) ≡ false
+unfolding exceeds splitOf
+exceeds-end l ws k h = rw (drop-of-length-le ws h)
 
 -- and at the end the list is the split
 pub split-done : (l : ℕ) (ws out r : List ℕ) (k : ℕ) → length ws ≤ k → length out ≤ k → take k out ++ splitOf l (drop k ws) ≡ r → out ≡ r
@@ -174,3 +187,10 @@ split-skips l (x ∷ xs) ys =
     total-skips : (xs ys : List ℕ) → total (xs ++ 0 ∷ ys) ≡ total (xs ++ ys)
     total-skips [] ys = omega arith
     total-skips (x ∷ xs) ys = omega (arith, total-skips xs ys)
+
+-- where no share is above its weight, none is found to be
+pub exceeds-none : (shares weights : List ℕ) → ((k : ℕ) → getD shares k 0 ≤ getD weights k 0) → exceeds shares weights ≡ false
+unfolding exceeds
+exceeds-none [] weights h = refl
+exceeds-none (s ∷ shares) [] h = rw (le-ltb 0 s (h 0), exceeds-none shares [] (λ k. h (suc k)))
+exceeds-none (s ∷ shares) (w ∷ weights) h = rw (le-ltb w s (h 0), exceeds-none shares weights (λ k. h (suc k)))

@@ -1,7 +1,9 @@
 -- Document 01, "The split": a sum shared over weights, in rising order.
 use Prim.Native.Nat.{ℕ, _+_, _-_, _*_, _/_, _≤_}
 use mathlib.Core.Path.{_≡_}
+use mathlib.Core.Bool.{Bool, false, _||_}
 use mathlib.Core.List.{List, [], _∷_}
+use lib.Dec.{ltb}
 use lib.ListN.{length, getD}
 use Rattle.lists.specs.Limits.{memberLimit, amountLimit, allocationLimit}
 use Rattle.lists.specs.Sums.{total}
@@ -16,6 +18,12 @@ unfoldable pub splitOf : ℕ → List ℕ → List ℕ
 splitOf left [] = []
 splitOf left (w ∷ ws) =
     shareOf left w (w + total ws) ∷ splitOf (left - shareOf left w (w + total ws)) ws
+
+-- whether a share comes out above the weight, or the pocket, that it is drawn from
+unfoldable pub exceeds : List ℕ → List ℕ → Bool
+exceeds [] weights = false
+exceeds (s ∷ shares) [] = ltb 0 s || exceeds shares []
+exceeds (s ∷ shares) (w ∷ weights) = ltb w s || exceeds shares weights
 
 -- What the callers of `split` see to: the bounds keep the product of a weight and the sum, at most 10,400,000,000,000,000,000, within 64
 -- bits.

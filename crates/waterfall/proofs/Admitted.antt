@@ -1,17 +1,16 @@
 -- What is known of a default that is not refused, and that a default of which all that is known is not refused.
-use Prim.Native.Nat.{ℕ, _+_, _≤_, _<_}
-use mathlib.Core.Path.{_≡_, refl, ap, sym, _∙_}
-use mathlib.Core.Bool.{Bool, true, false, _||_, not}
+use Prim.Native.Nat.{ℕ, _+_, _≤_}
+use mathlib.Core.Path.{_≡_}
+use mathlib.Core.Bool.{false, not}
 use mathlib.Core.List.{List}
 use native.Mathlib.Omega.{arith}
 use borrow.Author.Tests.{ltb-false, eqb-false, eqb-true, not-false}
 use lib.Dec.{eqb, ltb}
 use lib.ListN.{length}
-use Rattle.lists.specs.Checks.{check}
 use Rattle.lists.specs.Limits.{memberLimit, sumLimit}
 use Rattle.lists.proofs.Checks.{check-past, neither}
-use Rattle.waterfall.specs.Register.{absent, live, inDefault, figure, GivenBack}
-use Rattle.waterfall.specs.Default.{others, misranked, unready, overdrawn, defaultRefusal}
+use Rattle.waterfall.specs.Register.{absent, inDefault, figure}
+use Rattle.waterfall.specs.Default.{others, misranked, unready, defaultRefusal}
 use Rattle.waterfall.specs.declared.Register.{Register}
 
 pub record Admitted (r : Register) (member loss : ℕ) (ranks slip : List ℕ) : Type 0 where

@@ -1,22 +1,21 @@
 -- Laws of a default: what it charges is what there is to place, no charge passes its pocket, and layers and ranks are charged in order.
 use Prim.Native.Nat.{ℕ, zero, suc, _+_, _-_, _≤_, _<_, min, zero-le}
-use mathlib.Core.Path.{_≡_, refl, ap, sym, _∙_}
-use mathlib.Core.Bool.{Bool, true, false, _||_, _&&_, false≢true, true≢false}
-use mathlib.Core.List.{List, [], _∷_, map}
+use mathlib.Core.Path.{_≡_, refl, ap, _∙_}
+use mathlib.Core.Bool.{Bool, true, false, _||_, _&&_, false≢true}
+use mathlib.Core.List.{List, [], _∷_}
 use native.Mathlib.Omega.{arith}
-use borrow.Author.Tests.{le-ltb, ltb-false}
+use borrow.Author.Tests.{ltb-false}
 use lib.Dec.{eqb, ltb}
-use lib.ListN.{length, getD, set, length-set, length-map}
-use Rattle.lists.specs.Limits.{memberLimit, rankLimit}
-use Rattle.lists.specs.Sums.{total, plus, minus, keep}
+use lib.ListN.{length, getD}
+use Rattle.lists.specs.Limits.{rankLimit}
+use Rattle.lists.specs.Sums.{total, minus, keep}
 use Rattle.lists.proofs.Checks.{neither, and-right}
 use Rattle.lists.proofs.Places.{getD-map-any}
-use Rattle.lists.proofs.Sums.{getD-minus, keep-le, unkept, length-keep, length-minus, getD-le-total}
-use Rattle.split.proofs.Laws.{split-within, split-whole, total-within, length-split, split-none}
-use Rattle.ranks.specs.Ranks.{chargesOf}
-use Rattle.ranks.proofs.Laws.{length-charges, charge-within, exhausted, charges-within as charges-within-sum}
-use Rattle.waterfall.specs.Register.{live, inDefault, figure, replace, GivenBack}
-use Rattle.waterfall.specs.Default.{others, rooms, fallenCall, toPlace, onMargin, after1, onOwnFund, after2, onTranche1, after3, charges, after4, onTranche2, after5, onCalls, calls, shortfall, misranked, exceeds, overdrawn}
+use Rattle.lists.proofs.Sums.{getD-minus, keep-le}
+use Rattle.split.proofs.Laws.{exceeds-none, split-within, split-whole, total-within}
+use Rattle.ranks.proofs.Laws.{charge-within, exhausted, charges-within as charges-within-sum}
+use Rattle.waterfall.specs.Register.{live, inDefault, figure, replace}
+use Rattle.waterfall.specs.Default.{others, rooms, fallenCall, toPlace, onMargin, after1, onOwnFund, after2, onTranche1, after3, charges, after4, onTranche2, after5, onCalls, calls, shortfall, misranked, overdrawn}
 use Rattle.waterfall.specs.declared.Register.{Register}
 
 -- a member that is in default, the defaulter too, is none of the others
@@ -128,12 +127,6 @@ module _ (r : Register) (member loss : ℕ) (ranks : List ℕ) where
 
 -- 19 never comes -------------------------------------------------------------------
 
-pub exceeds-none : (shares pockets : List ℕ) → ((k : ℕ) → getD shares k 0 ≤ getD pockets k 0) → exceeds shares pockets ≡ false
-unfolding exceeds
-exceeds-none [] pockets h = refl
-exceeds-none (s ∷ shares) [] h = rw (le-ltb 0 s (h 0), exceeds-none shares [] (λ k. h (suc k)))
-exceeds-none (s ∷ shares) (p ∷ pockets) h = rw (le-ltb p s (h 0), exceeds-none shares pockets (λ k. h (suc k)))
-
 pub never-overdrawn : (r : Register) (member loss : ℕ) (ranks : List ℕ) → overdrawn r member loss ranks ≡ false
 never-overdrawn r member loss ranks =
     rw (
@@ -152,3 +145,12 @@ ranks-read (b ∷ read) [] e k h t = absurd (omega arith)
 ranks-read (b ∷ read) (rank ∷ ranks) e zero h t =
     let o = neither _ _ (and-right b _ t (neither _ _ e .0)) in (ltb-false rank 1 (o .0), ltb-false rankLimit rank (o .1))
 ranks-read (b ∷ read) (rank ∷ ranks) e (suc k) h t = ranks-read read ranks (neither (b && (ltb rank 1 || ltb rankLimit rank)) _ e .1) k (omega arith) t
+
+-- and those that are not read count as 0
+pub ranks-fit : (read : List Bool) (ranks : List ℕ) → misranked read ranks ≡ false → (k : ℕ) → getD (keep read ranks) k 0 ≤ rankLimit
+unfolding misranked
+ranks-fit [] ranks e k = zero-le
+ranks-fit (b ∷ read) [] e k = zero-le
+ranks-fit (true ∷ read) (rank ∷ ranks) e zero = ltb-false rankLimit rank (neither (ltb rank 1) _ (neither _ _ e .0) .1)
+ranks-fit (false ∷ read) (rank ∷ ranks) e zero = zero-le
+ranks-fit (b ∷ read) (rank ∷ ranks) e (suc k) = ranks-fit read ranks (neither (b && (ltb rank 1 || ltb rankLimit rank)) _ e .1) k

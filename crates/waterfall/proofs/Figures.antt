@@ -1,13 +1,13 @@
 -- Laws of a member's figure, and of a figure replaced.
 use Prim.Native.Nat.{ℕ, zero, suc, _+_, _-_, _≤_, _<_, zero-le}
-use mathlib.Core.Path.{_≡_, refl, ap, sym, _∙_}
+use mathlib.Core.Path.{_≡_, refl, ap, _∙_}
 use mathlib.Core.Bool.{Bool, true, false}
 use mathlib.Core.List.{List, [], _∷_}
 use native.Mathlib.Numerals.{sub-one}
 use native.Mathlib.Omega.{arith}
 use borrow.Author.Tests.{eqb-true, eqb-false}
 use lib.Dec.{eqb}
-use lib.ListN.{length, getD, set, List·getD-eq-default}
+use lib.ListN.{length, getD, List·getD-eq-default}
 use lib.Seq.{getD-set-same, getD-set-other}
 use Rattle.lists.specs.Limits.{memberLimit}
 use Rattle.lists.specs.Sums.{plus, minus}
@@ -57,6 +57,14 @@ by-member P m n p q = go (eqb m n) refl
     go : (b : Bool) → eqb m n ≡ b → P b
     go true e = p (eqb-true m n e)
     go false e = q (eqb-false m n e)
+
+-- what holds of a member's figure and the one put in, and of any figure that stays, holds of each figure before and after
+pub replaced : (P : Bool → ℕ → ℕ → Type 0) (xs : List ℕ) (m n x : ℕ) → 0 < m → m ≤ length xs → P true (figure xs m) x → ((y : ℕ) → P false y y)
+    → P (eqb m n) (figure xs n) (figure (replace xs m x) n)
+replaced P xs m n x h k p q =
+    by-member (λ b. P b (figure xs n) (figure (replace xs m x) n)) m n
+    (λ e. rw (figure-same xs m n x h k e, ← ap (figure xs) e) p)
+    (λ d. rw (figure-other xs m n x h d) (q (figure xs n)))
 
 -- sums and differences place by place
 pub figure-plus : (xs ys : List ℕ) (m : ℕ) → figure (plus xs ys) m ≡ figure xs m + figure ys m

@@ -1,23 +1,21 @@
 -- Each call gives back a register that satisfies `GivenBack`, of one that does.
-use Prim.Native.Nat.{ℕ, zero, suc, _+_, _-_, _≤_, _<_, zero-le}
-use mathlib.Core.Path.{_≡_, refl, ap, sym, _∙_}
-use mathlib.Core.Bool.{Bool, true, false, _||_}
+use Prim.Native.Nat.{ℕ, _+_, _-_, _≤_, zero-le}
+use mathlib.Core.Path.{_≡_, refl, sym, _∙_}
 use mathlib.Core.List.{List}
 use native.Mathlib.Omega.{arith}
 use borrow.Author.Tests.{ltb-false}
-use lib.Dec.{eqb, ltb}
-use lib.ListN.{length, getD, set, length-set, length-replicate, length-map}
-use Rattle.lists.specs.Checks.{check}
-use Rattle.lists.specs.Limits.{memberLimit, amountLimit, sumLimit}
-use Rattle.lists.specs.Sums.{total, plus, minus, keep}
+use lib.Dec.{eqb}
+use lib.ListN.{length, getD, length-set, length-map}
+use Rattle.lists.specs.Limits.{memberLimit, amountLimit}
+use Rattle.lists.specs.Sums.{total, minus, keep}
 use Rattle.lists.proofs.Checks.{check-by, neither, no-refusal}
 use Rattle.lists.proofs.Places.{set-all, set-both}
 use Rattle.lists.proofs.Sums.{getD-zeros, getD-plus, getD-minus, length-plus, length-minus, length-keep, unkept, getD-le-total}
 use Rattle.split.proofs.Laws.{length-split}
 use Rattle.ranks.proofs.Laws.{length-charges}
-use Rattle.waterfall.specs.Register.{absent, live, inDefault, figure, replace, none, emptyRegister, GivenBack}
+use Rattle.waterfall.specs.Register.{live, inDefault, figure, replace, none, emptyRegister, GivenBack}
 use Rattle.waterfall.specs.Calls.{paidOf, paymentOf, replenishedOf, replenishmentOf, closedOf, closeOf}
-use Rattle.waterfall.specs.Default.{others, rooms, onMargin, onOwnFund, onTranche1, charges, onTranche2, onCalls, calls, after3, settledOf, defaultRefusal, defaultOf}
+use Rattle.waterfall.specs.Default.{others, rooms, onMargin, onOwnFund, charges, onCalls, calls, after3, settledOf, defaultOf}
 use Rattle.waterfall.specs.declared.Register.{Register}
 use Rattle.waterfall.specs.declared.Outcome.{Outcome}
 use Rattle.waterfall.proofs.Figures.{figure-le-at}

@@ -1,13 +1,12 @@
 -- An opening gives back a register that satisfies `GivenBack`, for every sheet and every G.
-use Prim.Native.Nat.{ℕ, zero, suc, _+_, _-_, _*_, _/_, _≤_, _<_, zero-le}
+use Prim.Native.Nat.{ℕ, zero, suc, _+_, _-_, _≤_}
 use mathlib.Core.Path.{_≡_, refl, ap, sym, _∙_}
-use mathlib.Core.Bool.{Bool, true, false}
+use mathlib.Core.Bool.{false}
 use mathlib.Core.List.{List}
 use native.Mathlib.Omega.{arith}
 use borrow.Author.Tests.{ltb-false}
 use lib.Dec.{ltb}
-use lib.ListN.{length, getD, set, length-set}
-use Rattle.lists.specs.Checks.{check}
+use lib.ListN.{getD, length-set}
 use Rattle.lists.specs.Limits.{memberLimit, amountLimit, sumLimit, contributionFloor}
 use Rattle.lists.proofs.Checks.{check-by, check-past, no-refusal}
 use Rattle.lists.proofs.Places.{set-all, set-both}
@@ -18,8 +17,8 @@ use Rattle.sheets.specs.Sheet.{refusal, accepted, missized, recordCount, member
 use Rattle.sheets.specs.declared.Refusal.{Refusal}
 use Rattle.sheets.proofs.Laws.{InOrder}
 use Rattle.sheets.proofs.Accepted.{record-in-order, rest-accepted, none-refused}
-use Rattle.waterfall.specs.Register.{absent, live, inDefault, figure, replace, none, emptyRegister, GivenBack}
-use Rattle.waterfall.specs.Opening.{firstTranche, secondTranche, enteredOf, enteredFrom, unentered, openingRegister, openingRefusal, openedOf}
+use Rattle.waterfall.specs.Register.{live, inDefault, none, GivenBack}
+use Rattle.waterfall.specs.Opening.{enteredOf, enteredFrom, unentered, openingRegister, openingRefusal, openedOf}
 use Rattle.waterfall.specs.declared.Register.{Register}
 use Rattle.waterfall.proofs.Given.{given-empty}
 

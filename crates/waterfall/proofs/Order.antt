@@ -1,25 +1,24 @@
 -- The order of a default: where something goes to a layer, every earlier one is empty in the register given back, and a member is charged only
 -- where every more junior one is emptied.
-use Prim.Native.Nat.{ℕ, zero, suc, _+_, _-_, _≤_, _<_}
+use Prim.Native.Nat.{ℕ, zero, suc, _-_, _≤_, _<_}
 use mathlib.Core.Path.{_≡_, refl, ap, sym, _∙_}
-use mathlib.Core.Bool.{Bool, true, false}
+use mathlib.Core.Bool.{true, false}
 use mathlib.Core.List.{List}
 use native.Mathlib.Omega.{arith}
 use lib.Dec.{eqb}
-use lib.ListN.{length, getD, set, take, drop}
-use lib.Seq.{take-at, drop-at}
+use lib.ListN.{getD}
 use Rattle.lists.specs.Limits.{memberLimit, rankLimit}
-use Rattle.lists.specs.Sums.{total, plus, minus, keep}
+use Rattle.lists.specs.Sums.{minus, keep}
 use Rattle.lists.proofs.Places.{getD-map-any}
 use Rattle.lists.proofs.Sums.{kept, unkept, kept-mark, mark-within, getD-minus}
 use Rattle.ranks.proofs.Laws.{juniors-first}
 use Rattle.waterfall.specs.Register.{absent, live, inDefault, figure, replace, GivenBack}
-use Rattle.waterfall.specs.Default.{others, rooms, onMargin, after1, onOwnFund, after2, onTranche1, after3, charges, after4, onTranche2, after5, onCalls, calls, shortfall, settledOf}
+use Rattle.waterfall.specs.Default.{others, rooms, onMargin, after1, onOwnFund, after2, after3, charges, after4, after5, calls, shortfall, settledOf}
 use Rattle.waterfall.specs.declared.Register.{Register}
 use Rattle.waterfall.proofs.Admitted.{Admitted}
-use Rattle.waterfall.proofs.Default.{unmarked, charges-weighed, charges-within, calls-within, rooms-within, emptied1, emptied2, emptied3, emptied4, emptied5, emptied6, left1, left2, left3, left4, left5, left6, ranks-read}
+use Rattle.waterfall.proofs.Default.{unmarked, charges-weighed, emptied1, emptied2, emptied3, emptied4, emptied5, emptied6, ranks-read}
 use Rattle.waterfall.proofs.Given.{length-others}
-use Rattle.waterfall.proofs.Figures.{figure-member, figure-same, figure-other, figure-plus, figure-minus, figure-le}
+use Rattle.waterfall.proofs.Figures.{figure-member, figure-same, figure-other, figure-plus, figure-minus}
 
 module _ (r : Register) (g : GivenBack r) (member loss : ℕ) (ranks slip : List ℕ) (a : Admitted r member loss ranks slip) where
   abbrev after : Register

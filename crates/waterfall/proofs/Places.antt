@@ -1,48 +1,31 @@
 -- The loops of a default, place by place.
 use Prim.Native.Nat.{ℕ, _+_, _-_, _≤_, _<_}
-use mathlib.Core.Path.{_≡_, refl, ap, sym, _∙_}
-use mathlib.Core.Bool.{Bool, true, false, cond, _||_, _&&_, or-assoc}
-use mathlib.Core.List.{List, [], _∷_, _++_, map}
+use mathlib.Core.Path.{_≡_, sym, _∙_}
+use mathlib.Core.Bool.{Bool, false, cond, _||_, _&&_}
+use mathlib.Core.List.{List, [], _∷_, map}
 use native.Mathlib.Numerals.{add-one}
 use native.Mathlib.Omega.{arith}
+use borrow.Author.Tests.{ne-eqb}
 use lib.Dec.{eqb, ltb}
-use lib.ListN.{length, getD, take, drop, set, length-map, drop-of-length-le}
+use lib.ListN.{length, getD, drop, length-map, drop-of-length-le}
 use lib.Seq.{drop-cons}
 use Rattle.lists.specs.Limits.{memberLimit, rankLimit, amountLimit, sumLimit}
 use Rattle.lists.specs.Sums.{total, minus, keep}
-use Rattle.lists.proofs.Fill.{fill-turn, fill-done}
 use Rattle.lists.proofs.Places.{getD-map}
 use Rattle.lists.proofs.Sums.{keep-step, keep-le, length-keep, length-minus, getD-minus, total-bound}
 use Rattle.waterfall.specs.Register.{live}
-use Rattle.waterfall.specs.Default.{misranked, exceeds}
+use Rattle.waterfall.specs.Default.{misranked}
 use Rattle.waterfall.specs.Declaring.{roomsIn, Roomy}
 
--- a test that is made at each place, and holds where it holds at one -------------------
+-- what a member's status lets count
 
--- `u` is the test as it was made
-module _ (u t rest whole : Bool) (e : u ≡ t) (q : (t || rest) ≡ whole) where
-  pub any-here : u ≡ true → true ≡ whole
-  any-here h = ap (λ (v : Bool). v || rest) (sym h ∙ e) ∙ q
+pub live-counts : (s x : ℕ) → s ≡ live → x ≡ cond (eqb live s) x 0
+live-counts s x e = rw e
 
-  pub any-later : u ≡ false → rest ≡ whole
-  any-later h = ap (λ (v : Bool). v || rest) (sym h ∙ e) ∙ q
+pub others-not : (s x : ℕ) → (s ≡ live → ⊥) → 0 ≡ cond (eqb live s) x 0
+others-not s x h = rw (ne-eqb live s (λ e. h (sym e)))
 
--- `f` is what was found so far, and `here` what holds from this place on
-pub any-turn : (f u t here rest whole : Bool) → u ≡ t → here ≡ (t || rest) → (f || here) ≡ whole → ((f || u) || rest) ≡ whole
-any-turn f u t here rest whole e s q = or-assoc f u rest ∙ ap (λ (v : Bool). f || v) (ap (λ (v : Bool). v || rest) e ∙ sym s) ∙ q
-
-pub any-done : (f rest whole : Bool) → rest ≡ false → (f || rest) ≡ whole → f ≡ whole
-any-done true rest whole h q = q
-any-done false rest whole h q = sym h ∙ q
-
-pub exceeds-step : (shares pockets : List ℕ) (i : ℕ) → i < length shares → i < length pockets
-    → exceeds (drop i shares) (drop i pockets) ≡ (ltb (getD pockets i 0) (getD shares i 0) || exceeds (drop (i + 1) shares) (drop (i + 1) pockets))
-unfolding exceeds
-exceeds-step shares pockets i h k = rw (add-one, drop-cons shares i 0, drop-cons pockets i 0)
-
-pub exceeds-end : (shares pockets : List ℕ) (i : ℕ) → length shares ≤ i → exceeds (drop i shares) (drop i pockets) ≡ false
-unfolding exceeds
-exceeds-end shares pockets i h = rw (drop-of-length-le shares h)
+-- the ranks that are read, one a turn -----------------------------------------------
 
 module _ (status : List ℕ) where
   abbrev marks : List Bool

@@ -1,34 +1,65 @@
 -- A default as the code does it: its layers one after the other, what is settled, and its refusals.
-use Prim.Native.Nat.{ℕ, zero, suc, _+_, _-_, _≤_, _<_, zero-le}
+use Prim.Native.Nat.{ℕ, _+_, _-_, _≤_, _<_}
 use mathlib.Core.Path.{_≡_, refl, ap, sym, _∙_}
 use mathlib.Core.Bool.{Bool, true, false, _||_}
-use mathlib.Core.List.{List, [], _∷_, _++_, map, append-nil}
+use mathlib.Core.List.{List, _++_, map}
 use native.Mathlib.Omega.{arith}
-use lib.Dec.{eqb, ltb}
+use lib.Dec.{eqb}
 use lib.ListN.{length, getD, take, drop, set, replicate, length-set}
-use lib.Seq.{take-at, drop-at, drop-drop, getD-set-same, getD-set-other}
+use lib.Seq.{take-at, drop-at, drop-drop, getD-set-same}
 use Rattle.lists.specs.Checks.{check}
 use Rattle.lists.specs.Limits.{memberLimit, amountLimit, sumLimit, allocationLimit}
-use Rattle.lists.specs.Sums.{total, minus, keep}
-use Rattle.lists.proofs.Checks.{check-lt, check-nlt, check-true, check-false}
+use Rattle.lists.specs.Sums.{total, keep}
+use Rattle.lists.proofs.Checks.{Row, row-end, row-check, check-lt, check-true, check-false}
 use Rattle.lists.proofs.Places.{set-all}
 use Rattle.lists.proofs.Sums.{unkept, zeros, getD-zeros}
-use Rattle.split.specs.Split.{splitOf}
-use Rattle.split.proofs.Laws.{length-split, total-within}
+use Rattle.split.specs.Split.{splitOf, exceeds}
+use Rattle.split.proofs.Laws.{length-split, total-within, exceeds-none}
 use Rattle.ranks.specs.Ranks.{chargesOf}
-use Rattle.ranks.proofs.Laws.{charge-none}
-use Rattle.waterfall.specs.Register.{absent, live, inDefault, figure, replace, GivenBack}
-use Rattle.waterfall.specs.Default.{gives, othersIn, others, rooms, fallenCall, toPlace, onMargin, after1, onOwnFund, after2, onTranche1, after3, charges, after4, onTranche2, after5, onCalls, calls, shortfall, allocationOf, settledBy, settledOf, misranked, exceeds, overdrawn, unready, defaultRefusal, defaultOf, defaultSlip}
-use Rattle.waterfall.specs.Declaring.{admission, roomsIn, Roomy, Chargeable, Calls, Placeable, Places, Settles}
+use Rattle.waterfall.specs.Register.{live, inDefault, figure, replace, GivenBack}
+use Rattle.waterfall.specs.Default.{gives, othersIn, others, rooms, fallenCall, toPlace, onMargin, after1, onOwnFund, after2, onTranche1, after3, charges, after4, onTranche2, after5, onCalls, calls, shortfall, allocationOf, settledBy, settledOf, misranked, overdrawn, defaultRefusal, defaultOf, defaultSlip}
+use Rattle.waterfall.specs.Declaring.{admission, roomsIn, Roomy, Chargeable, Calls}
 use Rattle.waterfall.specs.Reply.{refuse}
 use Rattle.waterfall.specs.declared.Allocation.{Allocation}
 use Rattle.waterfall.specs.declared.Outcome.{Outcome}
 use Rattle.waterfall.specs.declared.Register.{Register}
 use Rattle.waterfall.specs.declared.Reply.the-variants.{Allocated}
-use Rattle.waterfall.proofs.Admitted.{Admitted, admitted}
-use Rattle.waterfall.proofs.Default.{unmarked, rooms-within, charges-within, calls-within, margin-gives, own-gives, tranche1-gives, tranche2-gives, exceeds-none, never-overdrawn, charges-placed, charges-weighed}
+use Rattle.waterfall.proofs.Admitted.{admitted}
+use Rattle.waterfall.proofs.Default.{unmarked, rooms-within, charges-within, calls-within, margin-gives, own-gives, tranche1-gives, tranche2-gives, never-overdrawn, charges-placed, charges-weighed}
 use Rattle.waterfall.proofs.Figures.{figure-at, figure-place}
 use Rattle.waterfall.proofs.Given.{length-calls, length-charged}
+
+-- what is known of a default that is not refused, and what is promised of it --------------
+
+-- a default that is not refused by 11 to 15
+pub record Placeable (r : Register) (member loss : ℕ) (ranks : List ℕ) : Type 0 where
+  pub given : GivenBack r
+  pub member-least : 0 < member
+  pub member-most : member ≤ memberLimit
+  pub loss-fits : loss ≤ sumLimit
+  pub ranks-length : length ranks ≡ memberLimit
+  pub well-ranked : misranked (othersIn (r .status) member) ranks ≡ false
+
+-- its answer and what its slip receives, and whether a share passes what it is drawn from
+pub record Places (r : Register) (member loss : ℕ) (ranks : List ℕ) (allocation : Allocation) (charged called : List ℕ) (over : Bool) : Type 0 where
+  pub allocation-is : allocation ≡ allocationOf r member loss ranks
+  pub charges-are : charged ≡ charges r member loss ranks
+  pub calls-are : called ≡ calls r member loss ranks
+  pub over-is : over ≡ overdrawn r member loss ranks
+
+-- what can be taken from a register and called
+pub record Settles (r : Register) (member margin own first second : ℕ) (charges calls : List ℕ) : Type 0 where
+  pub given : GivenBack r
+  pub member-least : 0 < member
+  pub member-most : member ≤ memberLimit
+  pub margin-within : margin ≤ figure (r .margin) member
+  pub own-within : own ≤ figure (r .contribution) member
+  pub first-within : first ≤ r .first
+  pub second-within : second ≤ r .second
+  pub charges-length : length charges ≡ memberLimit
+  pub calls-length : length calls ≡ memberLimit
+  pub charges-within : (k : ℕ) → getD charges k 0 ≤ getD (replace (r .contribution) member (figure (r .contribution) member - own)) k 0
+  pub calls-within : (k : ℕ) → getD (r .called) k 0 + getD calls k 0 ≤ amountLimit
 
 -- the layers ---------------------------------------------------------------------------
 
@@ -64,6 +95,10 @@ called-none rooms left h e =
           (total-within (gives left (total rooms)) rooms (omega arith) ∙ g);
       over-is = sym (exceeds-none (replicate memberLimit 0) rooms (λ k. omega (arith, getD-zeros memberLimit k)));
     }
+
+-- the calls add to what layer 6 gives
+pub whole-called : (rooms : List ℕ) (left : ℕ) (cs : List ℕ) (t rest : ℕ) (over : Bool) → Calls rooms left cs t rest over → t ≡ total cs
+whole-called rooms left cs t rest over s = s .total-is ∙ sym (ap total (s .calls-are) ∙ total-within (gives left (total rooms)) rooms (omega arith))
 
 module _ (r : Register) (member loss : ℕ) (ranks : List ℕ) (p : Placeable r member loss ranks) where
   abbrev at : ℕ
@@ -108,6 +143,7 @@ module _ (r : Register) (member loss : ℕ) (ranks : List ℕ) (p : Placeable r 
           ranks-length = p .ranks-length;
           sum-fits = left3-fits;
           contribution-fits = λ k. omega (arith, g .contribution-fits k, g .requirement-fits k);
+          well-ranked = p .well-ranked;
         }
 
     module _ (ch : List ℕ) (t4 : ℕ) (e4 : (ch ≡ chargesOf l3 (keep (map (eqb live) marked) (r .contribution)) ranks) × (t4 ≡ total ch)) where
@@ -212,32 +248,19 @@ module _ (r : Register) (member loss : ℕ) (ranks : List ℕ) (p : Placeable r 
 
 -- refusals -------------------------------------------------------------------------------
 
--- two rows of the same refusals, of which the first ends in 0 and the second in another answer
-record Row (rest a b : ℕ) : Type 0 where
-  refused : 0 < a → b ≡ a
-  passed : a ≡ 0 → b ≡ rest
-
-row-end : (rest : ℕ) → Row rest 0 rest
-row-end rest = record { refused = λ h. omega arith; passed = λ e. refl }
-
-row-check : (t : Bool) (n : ℕ) {rest a b : ℕ} → 0 < n → Row rest a b → Row rest (check t n a) (check t n b)
-unfolding check
-row-check true n h w = record { refused = λ _. refl; passed = λ e. omega arith }
-row-check false n h w = w
-
 module _ (r : Register) (member loss : ℕ) (ranks slip : List ℕ) where
   abbrev early : ℕ
   early = admission (r .status) member loss ranks (length slip) 0
 
-  row : Row (check (overdrawn r member loss ranks) 19 0) early (defaultRefusal r member loss ranks slip)
+  row : Row (λ n. n) (check (overdrawn r member loss ranks) 19 0) early (defaultRefusal r member loss ranks slip)
   unfolding defaultRefusal
   row =
-      row-check _ 11 (omega arith)
-      (row-check _ 12 (omega arith)
-      (row-check _ 13 (omega arith)
-      (row-check _ 14 (omega arith)
-      (row-check _ 15 (omega arith)
-      (row-end _)))))
+      row-check _ _ _ 11 (omega arith)
+      (row-check _ _ _ 12 (omega arith)
+      (row-check _ _ _ 13 (omega arith)
+      (row-check _ _ _ 14 (omega arith)
+      (row-check _ _ _ 15 (omega arith)
+      (row-end _ _)))))
 
   -- a default that is refused leaves register and slip
   refused-default : (n : ℕ) → n ≡ defaultRefusal r member loss ranks slip → 0 < n
@@ -281,6 +304,7 @@ module _ (r : Register) (member loss : ℕ) (ranks slip : List ℕ) where
 
   -- what is known once 11 to 15 are passed
   pub placeable : GivenBack r → early ≡ 0 → Placeable r member loss ranks × (memberLimit + memberLimit ≤ length slip)
+  unfolding others
   placeable g e =
       let a = admitted r member loss ranks slip (none-refused e (never-overdrawn r member loss ranks)) in
       let m = figure-place (r .status) member _ refl (a .present) in (
@@ -290,6 +314,7 @@ module _ (r : Register) (member loss : ℕ) (ranks slip : List ℕ) where
           member-most = omega (arith, m .1, g .status-length);
           loss-fits = a .loss-fits;
           ranks-length = a .ranks-length;
+          well-ranked = a .well-ranked;
         },
         a .slip-length,
       )

@@ -1,14 +1,12 @@
 -- Document 01, "Declaring a default", the other three calls: payment, replenishment, close.
 use Prim.Native.Nat.{ℕ, _+_, _-_}
-use mathlib.Core.Bool.{Bool, _||_}
-use mathlib.Core.List.{List}
+use mathlib.Core.Bool.{_||_}
 use lib.Dec.{eqb, ltb}
 use Rattle.lists.specs.Checks.{check}
 use Rattle.lists.specs.Sums.{total}
 use Rattle.waterfall.specs.Register.{absent, inDefault, figure, replace, none}
 use Rattle.waterfall.specs.Reply.{refuse}
 use Rattle.waterfall.specs.declared.Register.{Register}
-use Rattle.waterfall.specs.declared.Reply.{Reply}
 use Rattle.waterfall.specs.declared.Reply.the-variants.{Accepted}
 use Rattle.waterfall.specs.declared.Outcome.{Outcome}
 

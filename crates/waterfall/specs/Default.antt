@@ -7,13 +7,12 @@ use lib.ListN.{length, drop}
 use Rattle.lists.specs.Checks.{check}
 use Rattle.lists.specs.Limits.{memberLimit, rankLimit, sumLimit}
 use Rattle.lists.specs.Sums.{total, plus, minus, keep}
-use Rattle.split.specs.Split.{splitOf}
+use Rattle.split.specs.Split.{splitOf, exceeds}
 use Rattle.ranks.specs.Ranks.{chargesOf}
 use Rattle.waterfall.specs.Register.{absent, live, inDefault, figure, replace}
 use Rattle.waterfall.specs.Reply.{refuse}
 use Rattle.waterfall.specs.declared.Register.{Register}
 use Rattle.waterfall.specs.declared.Allocation.{Allocation}
-use Rattle.waterfall.specs.declared.Reply.{Reply}
 use Rattle.waterfall.specs.declared.Reply.the-variants.{Allocated}
 use Rattle.waterfall.specs.declared.Outcome.{Outcome}
 
@@ -133,11 +132,6 @@ misranked (b ∷ read) [] = false
 misranked (b ∷ read) (rank ∷ ranks) = (b && (ltb rank 1 || ltb rankLimit rank)) || misranked read ranks
 
 -- 19. "A share comes out above the pocket, or in layer 6 the rest of the cap, it is drawn from."
-unfoldable pub exceeds : List ℕ → List ℕ → Bool
-exceeds [] pockets = false
-exceeds (s ∷ shares) [] = ltb 0 s || exceeds shares []
-exceeds (s ∷ shares) (p ∷ pockets) = ltb p s || exceeds shares pockets
-
 abbrev pub overdrawn : Register → ℕ → ℕ → List ℕ → Bool
 overdrawn r member loss ranks =
     exceeds (charges r member loss ranks) (r .contribution) || exceeds (calls r member loss ranks) (rooms r member)

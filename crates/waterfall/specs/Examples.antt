@@ -4,13 +4,13 @@ use mathlib.Core.Path.{_≡_, refl}
 use mathlib.Core.List.{List, [], _∷_, _++_}
 use lib.ListN.{take, drop, replicate}
 use Rattle.lists.specs.Checks.{check}
-use Rattle.split.specs.Split.{shareOf, splitOf}
+use Rattle.split.specs.Split.{shareOf, splitOf, exceeds}
 use Rattle.ranks.specs.Ranks.{chargesFrom, chargesOf}
 use Rattle.sheets.specs.Bytes.{le32}
 use Rattle.sheets.specs.Members.{outside, missing, excessive, entryOf}
 use Rattle.sheets.specs.Sheet.{missized, memberRefusalFrom, memberRefusal}
 use Rattle.waterfall.specs.Opening.{firstTranche, secondTranche, enteredOf, enteredFrom, openingRegister, openingRefusal, openedOf}
-use Rattle.waterfall.specs.Default.{others, rooms, fallenCall, toPlace, onMargin, after1, onOwnFund, after2, onTranche1, after3, charges, after4, onTranche2, after5, onCalls, calls, shortfall, allocationOf, settledOf, misranked, exceeds, defaultRefusal, defaultOf, defaultSlip}
+use Rattle.waterfall.specs.Default.{others, rooms, fallenCall, toPlace, onMargin, after1, onOwnFund, after2, onTranche1, after3, charges, after4, onTranche2, after5, onCalls, calls, shortfall, allocationOf, settledOf, misranked, defaultRefusal, defaultOf, defaultSlip}
 use Rattle.waterfall.specs.declared.Register.{Register}
 use Rattle.waterfall.specs.declared.Outcome.{Outcome}
 use Rattle.waterfall.specs.declared.Reply.{Reply}

@@ -1,6 +1,7 @@
 -- The definitions that the contracts of `waterfall` cite.
 pub mod Register
 pub mod Opening
+pub mod Checks
 pub mod Reply
 pub mod Default
 pub mod Declaring

@@ -1,7 +1,7 @@
 -- Document 01, "The opening register": a register sheet and our own contribution G.
 use Prim.Native.Nat.{ℕ, zero, suc, _+_, _-_, _*_, _/_}
 use mathlib.Core.List.{List}
-use lib.Dec.{ltb, eqb}
+use lib.Dec.{ltb}
 use Rattle.lists.specs.Checks.{check}
 use Rattle.lists.specs.Limits.{memberLimit, sumLimit, contributionFloor}
 use Rattle.sheets.specs.Bytes.{recordAt}

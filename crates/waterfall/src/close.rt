@@ -3,7 +3,6 @@ use crate::Outcome;
 use crate::Register;
 use crate::Reply;
 ghost use mathlib.Core.Path.{_≡_};
-ghost use Prim.Native.Nat.{ℕ};
 ghost use lib.Dec.{ltb};
 ghost use lib.ListN.{length};
 ghost use Rattle.lists.specs.Limits.{memberLimit};

@@ -3,7 +3,7 @@ use crate::Allocation;
 use crate::Outcome;
 use crate::Register;
 use crate::Reply;
-use crate::checks::status_of;
+use crate::checks::standing;
 use ranks::Charged;
 use ranks::charge_by_rank;
 use split::split;
@@ -15,11 +15,11 @@ ghost use lib.Dec.{eqb, ltb};
 ghost use lib.ListN.{length, getD, take, drop};
 ghost use Rattle.lists.specs.Limits.{memberLimit, rankLimit, amountLimit, sumLimit, allocationLimit};
 ghost use Rattle.lists.specs.Sums.{total, plus, minus, keep};
-ghost use Rattle.split.specs.Split.{splitOf};
+ghost use Rattle.split.specs.Split.{exceeds};
 ghost use Rattle.ranks.specs.Ranks.{chargesOf};
 ghost use Rattle.waterfall.specs.Register.{live, GivenBack};
-ghost use Rattle.waterfall.specs.Declaring.{admission, roomsIn, Roomy, Chargeable, Calls, Placeable, Places, Settles};
-ghost use Rattle.waterfall.specs.Default.{gives, misranked, exceeds, unready, settledBy, defaultOf, defaultSlip};
+ghost use Rattle.waterfall.specs.Declaring.{admission, roomsIn, Roomy, Chargeable, Calls};
+ghost use Rattle.waterfall.specs.Default.{gives, misranked, unready, defaultOf, defaultSlip};
 
 const SUM_LIMIT: u64 = 25_600_000_000;
 
@@ -40,14 +40,6 @@ struct Called {
     calls: [u64; 64],
     total: u64,
     left: u64,
-    over: bool,
-}
-
-// What an accepted default answers, what its slip receives, and whether a share passes what it is drawn from.
-struct Placed {
-    allocation: Allocation,
-    charges: [u64; 64],
-    calls: [u64; 64],
     over: bool,
 }
 
@@ -76,18 +68,27 @@ fn live_figure(status: u8, figure: u64) -> u64
     0
 }
 
-// The figures of the live members, and 0 for the others.
-fn live_figures<'a>(status: &'a [u8; 64], figures: &'a [u64; 64]) -> [u64; 64]
-    requires { ⌜ (length (now status) ≡ memberLimit) × (length (now figures) ≡ memberLimit) ⌝ }
-    ensures { λ r. ⌜ r ≡ keep (map (eqb live) (now (status .entry))) (now (figures .entry)) ⌝ }
+fn read_rank(status: u8, rank: u8) -> u8
+    ensures { λ r. ⌜ r ≡ cond (eqb live status) rank 0 ⌝ }
 {
-    let mut kept = [0u64; 64];
+    if status == 1 {
+        return rank;
+    }
+    0
+}
+
+// "Only ranks of live members other than the defaulter are read": the others' count as 0, which is no rank.
+fn read_ranks(status: &[u8; 64], ranks: &[u8]) -> [u8; 64]
+    requires { ⌜ (length (now status) ≡ memberLimit) × (length (now ranks) ≡ memberLimit) ⌝ }
+    ensures { λ r. ⌜ r ≡ keep (map (eqb live) (now (status .entry))) (now (ranks .entry)) ⌝ }
+{
+    let mut read = [0u8; 64];
     let mut i = 0;
     while i < 64 {
-        kept[i] = live_figure(status[i], figures[i]);
+        read[i] = read_rank(status[i], ranks[i]);
         i += 1;
     }
-    kept
+    read
 }
 
 // The rests of the caps of the live members, and 0 for the others.
@@ -119,23 +120,10 @@ fn charge_others<'a>(
 ) -> Charged
     requires { ⌜ Chargeable (now status) (now contribution) sum (now ranks) ⌝ }
     ensures { λ r. ⌜ (r .charges ≡ chargesOf sum (keep (map (eqb live) (now (status .entry))) (now (contribution .entry))) (now (ranks .entry)))
-        × (r .total ≡ total (r .charges)) ⌝ }
+        × (r .total ≡ total (r .charges)) × (r .over ≡ exceeds (r .charges) (now (contribution .entry))) ⌝ }
 {
-    let weights = live_figures(status, contribution);
-    charge_by_rank(sum, weights, ranks)
-}
-
-// A sum shared over the rooms. Where there is nothing to call, nothing is split.
-fn share_calls(sum: u64, whole: u64, rooms: &[u64; 64]) -> [u64; 64]
-    requires { ⌜ (length (now rooms) ≡ memberLimit) × (sum ≤ allocationLimit) × (whole ≡ total (now rooms)) × ((k : ℕ) → getD (now rooms) k 0 ≤ amountLimit) ⌝ }
-    ensures { λ r. ⌜ r ≡ splitOf sum (now (rooms .entry)) ⌝ }
-{
-    let mut calls = [0u64; 64];
-    if sum == 0 {
-        return calls;
-    }
-    split(sum, whole, rooms, &mut calls);
-    calls
+    let read = read_ranks(status, ranks);
+    charge_by_rank(sum, contribution, &read)
 }
 
 // Layer 6. "calls on other live members": where nothing is left, no room is looked at.
@@ -158,13 +146,13 @@ fn call_others<'a>(
     }
     let found = rooms_of(status, cap, called);
     let step = layer(left, found.total);
-    let rooms = found.rooms;
-    let calls = share_calls(step.gives, found.total, &rooms);
+    let mut calls = [0u64; 64];
+    let over = split(step.gives, found.total, &found.rooms, &mut calls);
     Called {
         calls,
         total: step.gives,
         left: step.left,
-        over: exceeds(&calls, &rooms),
+        over,
     }
 }
 
@@ -206,12 +194,9 @@ fn refusal(status: [u8; 64], member: u64, loss: u64, ranks: &[u8], slip: usize) 
     requires { ⌜ length status ≡ memberLimit ⌝ }
     ensures { λ r. ⌜ r ≡ admission status member loss (now (ranks .entry)) slip 0 ⌝ }
 {
-    let standing = status_of(&status, member);
-    if standing == 0 {
-        return 11;
-    }
-    if standing == 2 {
-        return 12;
+    let found = standing(&status, member);
+    if 0 < found {
+        return found;
     }
     if excessive(loss) {
         return 13;
@@ -220,27 +205,12 @@ fn refusal(status: [u8; 64], member: u64, loss: u64, ranks: &[u8], slip: usize) 
         return 14;
     }
     let at = (member - 1) as usize;
-    let mut others = status;
-    others[at] = 2;
-    if misranked(&others, ranks) {
+    let mut read = status;
+    read[at] = 2;
+    if misranked(&read, ranks) {
         return 15;
     }
     0
-}
-
-// 19: a share above what it is drawn from.
-fn exceeds<'a>(shares: &'a [u64; 64], pockets: &'a [u64; 64]) -> bool
-    requires { ⌜ (length (now shares) ≡ memberLimit) × (length (now pockets) ≡ memberLimit) ⌝ }
-    ensures { λ r. ⌜ r ≡ exceeds (now (shares .entry)) (now (pockets .entry)) ⌝ }
-{
-    let mut i = 0;
-    while i < 64 {
-        if pockets[i] < shares[i] {
-            return true;
-        }
-        i += 1;
-    }
-    false
 }
 
 // The figures with the amounts taken from them, place by place.
@@ -256,15 +226,18 @@ fn take_from(figures: &mut [u64; 64], amounts: &[u64; 64])
     }
 }
 
-// The figures with the amounts added to them, place by place.
-fn add_to(figures: &mut [u64; 64], amounts: &[u64; 64])
-    requires { ⌜ (length (now figures) ≡ memberLimit) × (length (now amounts) ≡ memberLimit) ⌝ }
-    requires { ⌜ ((k : ℕ) → getD (now figures) k 0 + getD (now amounts) k 0 ≤ amountLimit) ⌝ }
-    ensures { λ _. ⌜ now (figures .exit) ≡ plus (now (figures .entry)) (now (amounts .entry)) ⌝ }
+// The calls added to what is outstanding, or to what was called, place by place. Where nothing is called, nothing is added.
+fn add_calls(figures: &mut [u64; 64], calls: &[u64; 64], whole: u64)
+    requires { ⌜ (length (now figures) ≡ memberLimit) × (length (now calls) ≡ memberLimit) × (whole ≡ total (now calls)) ⌝ }
+    requires { ⌜ ((k : ℕ) → getD (now figures) k 0 + getD (now calls) k 0 ≤ amountLimit) ⌝ }
+    ensures { λ _. ⌜ now (figures .exit) ≡ plus (now (figures .entry)) (now (calls .entry)) ⌝ }
 {
+    if whole == 0 {
+        return;
+    }
     let mut i = 0;
     while i < 64 {
-        figures[i] += amounts[i];
+        figures[i] += calls[i];
         i += 1;
     }
 }
@@ -281,66 +254,8 @@ fn write(slip: &mut [u64], start: usize, figures: &[u64; 64])
     }
 }
 
-// The layers of a default that is not refused by 11 to 15.
-fn place(register: Register, member: u64, loss: u64, ranks: &[u8]) -> Placed
-    requires { ⌜ Placeable register member loss (now ranks) ⌝ }
-    ensures { λ r. ⌜ Places register member loss (now (ranks .entry)) (r .allocation) (r .charges) (r .calls) (r .over) ⌝ }
-{
-    let at = (member - 1) as usize;
-    let fallen = register.outstanding[at];
-    let first = layer(loss + fallen, register.margin[at]);
-    let second = layer(first.left, register.contribution[at]);
-    let third = layer(second.left, register.first);
-    let mut others = register.status;
-    others[at] = 2;
-    let fourth = charge_others(&others, &register.contribution, third.left, ranks);
-    let fifth = layer(third.left - fourth.total, register.second);
-    let sixth = call_others(&others, &register.cap, &register.called, fifth.left);
-    let charges = fourth.charges;
-    let calls = sixth.calls;
-    Placed {
-        allocation: Allocation {
-            fallen,
-            margin: first.gives,
-            own: second.gives,
-            tranche1: third.gives,
-            members: fourth.total,
-            tranche2: fifth.gives,
-            calls: sixth.total,
-            short: sixth.left,
-        },
-        charges,
-        calls,
-        over: exceeds(&charges, &register.contribution) | sixth.over,
-    }
-}
-
-// The register once the layers are taken from it and the calls are made.
-fn settle(
-    mut register: Register,
-    member: u64,
-    taken: Allocation,
-    charges: [u64; 64],
-    calls: [u64; 64],
-) -> Register
-    requires { ⌜ Settles register member (taken .margin) (taken .own) (taken .tranche1) (taken .tranche2) charges calls ⌝ }
-    ensures { λ r. ⌜ r ≡ settledBy register member (taken .margin) (taken .own) (taken .tranche1) (taken .tranche2) charges calls ⌝ }
-{
-    let at = (member - 1) as usize;
-    register.status[at] = 2;
-    register.margin[at] -= taken.margin;
-    register.contribution[at] -= taken.own;
-    register.outstanding[at] = 0;
-    register.first -= taken.tranche1;
-    register.second -= taken.tranche2;
-    take_from(&mut register.contribution, &charges);
-    add_to(&mut register.outstanding, &calls);
-    add_to(&mut register.called, &calls);
-    register
-}
-
 pub fn declare(
-    register: Register,
+    mut register: Register,
     member: u64,
     loss: u64,
     ranks: &[u8],
@@ -351,28 +266,51 @@ pub fn declare(
     ensures { λ r. ⌜ now (slip .exit) ≡ defaultSlip register member loss (now (ranks .entry)) (now (slip .entry)) ⌝ }
     ensures { λ r. ⌜ GivenBack (r .register) ⌝ }
 {
-    let status = register.status;
-    let number = refusal(status, member, loss, ranks, slip.len());
+    let mut others = register.status;
+    let number = refusal(others, member, loss, ranks, slip.len());
     if 0 < number {
         return Outcome {
             reply: Reply::Refused(number),
             register,
         };
     }
-    let placed = place(register, member, loss, ranks);
-    if placed.over {
+    let at = (member - 1) as usize;
+    let fallen = register.outstanding[at];
+    let first = layer(loss + fallen, register.margin[at]);
+    let second = layer(first.left, register.contribution[at]);
+    let third = layer(second.left, register.first);
+    others[at] = 2;
+    let fourth = charge_others(&others, &register.contribution, third.left, ranks);
+    let fifth = layer(third.left - fourth.total, register.second);
+    let sixth = call_others(&others, &register.cap, &register.called, fifth.left);
+    if fourth.over | sixth.over {
         return Outcome {
             reply: Reply::Refused(19),
             register,
         };
     }
-    let charges = placed.charges;
-    let calls = placed.calls;
-    let allocation = placed.allocation;
-    write(slip, 0, &charges);
-    write(slip, 64, &calls);
+    write(slip, 0, &fourth.charges);
+    write(slip, 64, &sixth.calls);
+    register.status[at] = 2;
+    register.margin[at] -= first.gives;
+    register.contribution[at] -= second.gives;
+    register.outstanding[at] = 0;
+    register.first -= third.gives;
+    register.second -= fifth.gives;
+    take_from(&mut register.contribution, &fourth.charges);
+    add_calls(&mut register.outstanding, &sixth.calls, sixth.total);
+    add_calls(&mut register.called, &sixth.calls, sixth.total);
     Outcome {
-        reply: Reply::Allocated(allocation),
-        register: settle(register, member, allocation, charges, calls),
+        reply: Reply::Allocated(Allocation {
+            fallen,
+            margin: first.gives,
+            own: second.gives,
+            tranche1: third.gives,
+            members: fourth.total,
+            tranche2: fifth.gives,
+            calls: sixth.total,
+            short: sixth.left,
+        }),
+        register,
     }
 }

@@ -2,10 +2,10 @@
 use crate::Outcome;
 use crate::Register;
 use crate::Reply;
-use crate::checks::status_of;
-use crate::checks::unfit;
+use crate::checks::amount_refusal;
+use crate::checks::figure_of;
+use crate::checks::replace;
 ghost use mathlib.Core.Path.{_≡_};
-ghost use Prim.Native.Nat.{ℕ};
 ghost use Rattle.waterfall.specs.Register.{GivenBack};
 ghost use Rattle.waterfall.specs.Calls.{paymentOf};
 
@@ -14,29 +14,16 @@ pub fn pay(register: Register, member: u64, amount: u64) -> Outcome
     ensures { λ r. ⌜ r ≡ paymentOf register member amount ⌝ }
     ensures { λ r. ⌜ GivenBack (r .register) ⌝ }
 {
-    let status = status_of(&register.status, member);
-    if status == 0 {
+    let due = figure_of(&register.outstanding, member);
+    let number = amount_refusal(&register.status, member, amount, due, 16);
+    if 0 < number {
         return Outcome {
-            reply: Reply::Refused(11),
-            register,
-        };
-    }
-    if status == 2 {
-        return Outcome {
-            reply: Reply::Refused(12),
-            register,
-        };
-    }
-    let at = (member - 1) as usize;
-    let due = register.outstanding[at];
-    if unfit(amount, due) {
-        return Outcome {
-            reply: Reply::Refused(16),
+            reply: Reply::Refused(number),
             register,
         };
     }
     let mut next = register;
-    next.outstanding[at] = due - amount;
+    replace(&mut next.outstanding, member, due - amount);
     Outcome {
         reply: Reply::Accepted,
         register: next,

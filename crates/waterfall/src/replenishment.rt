@@ -2,10 +2,10 @@
 use crate::Outcome;
 use crate::Register;
 use crate::Reply;
-use crate::checks::status_of;
-use crate::checks::unfit;
+use crate::checks::amount_refusal;
+use crate::checks::figure_of;
+use crate::checks::replace;
 ghost use mathlib.Core.Path.{_≡_};
-ghost use Prim.Native.Nat.{ℕ};
 ghost use Rattle.waterfall.specs.Register.{GivenBack};
 ghost use Rattle.waterfall.specs.Calls.{replenishmentOf};
 
@@ -14,30 +14,17 @@ pub fn replenish(register: Register, member: u64, amount: u64) -> Outcome
     ensures { λ r. ⌜ r ≡ replenishmentOf register member amount ⌝ }
     ensures { λ r. ⌜ GivenBack (r .register) ⌝ }
 {
-    let status = status_of(&register.status, member);
-    if status == 0 {
+    let room = figure_of(&register.requirement, member) - figure_of(&register.contribution, member);
+    let number = amount_refusal(&register.status, member, amount, room, 17);
+    if 0 < number {
         return Outcome {
-            reply: Reply::Refused(11),
+            reply: Reply::Refused(number),
             register,
         };
     }
-    if status == 2 {
-        return Outcome {
-            reply: Reply::Refused(12),
-            register,
-        };
-    }
-    let at = (member - 1) as usize;
-    let stands = register.contribution[at];
-    let room = register.requirement[at] - stands;
-    if unfit(amount, room) {
-        return Outcome {
-            reply: Reply::Refused(17),
-            register,
-        };
-    }
+    let raised = figure_of(&register.contribution, member) + amount;
     let mut next = register;
-    next.contribution[at] = stands + amount;
+    replace(&mut next.contribution, member, raised);
     Outcome {
         reply: Reply::Accepted,
         register: next,

@@ -8,7 +8,7 @@ use sheets::members::number_of;
 use sheets::missized;
 ghost use mathlib.Core.Path.{_≡_};
 ghost use mathlib.Core.Bool.{false};
-ghost use Prim.Native.Nat.{ℕ, _≤_};
+ghost use Prim.Native.Nat.{_≤_};
 ghost use Rattle.lists.specs.Limits.{memberLimit, sumLimit};
 ghost use Rattle.sheets.specs.Sheet.{missized};
 ghost use Rattle.waterfall.specs.Register.{GivenBack};

@@ -1,7 +1,6 @@
 // What a host prints of a register.
 use crate::Register;
 ghost use mathlib.Core.Path.{_≡_};
-ghost use Prim.Native.Nat.{ℕ};
 ghost use Rattle.waterfall.specs.View.{figuresOf, tranchesOf};
 
 // A member's figures, all 0 for a number that is not in the register. Status 0: not in the register; 1: live; 2: in default.

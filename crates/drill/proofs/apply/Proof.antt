@@ -42,24 +42,16 @@ returns c =
 
 returns-2 : tie.Need-returns-2
 unfolding appliedOf slipLeft
-returns-2 c =
-    let is = c .before .before .call2 .given .1 in
-    let p = c .pay .ensures in
-    (rw is (p .0), (rw is refl, p .1))
+returns-2 c = let is = c .before .before .call2 .given .1 in (rw is (c .pay .ensures .0), (rw is refl, c .pay .ensures .1))
 
 returns-3 : tie.Need-returns-3
 unfolding appliedOf slipLeft
 returns-3 c =
-    let is = c .before .before .call3 .given .1 in
-    let p = c .replenish .ensures in
-    (rw is (p .0), (rw is refl, p .1))
+    let is = c .before .before .call3 .given .1 in (rw is (c .replenish .ensures .0), (rw is refl, c .replenish .ensures .1))
 
 returns-4 : tie.Need-returns-4
 unfolding appliedOf slipLeft
-returns-4 c =
-    let is = c .before .enum-told .given .1 in
-    let p = c .close .ensures in
-    (rw is (p .0), (rw is refl, p .1))
+returns-4 c = let is = c .before .enum-told .given .1 in (rw is (c .close .ensures .0), (rw is refl, c .close .ensures .1))
 
 pub apply-spec : {M : Type 1} → statement M
 apply-spec =

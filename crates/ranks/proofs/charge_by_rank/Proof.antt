@@ -3,14 +3,14 @@ use Prim.Native.Nat.{ℕ}
 use mathlib.Core.Path.{refl, ap, sym, _∙_}
 use mathlib.Core.List.{List}
 use native.Mathlib.Omega.{arith}
-use lib.ListN.{getD}
+use borrow.Author.Needs.{needs}
+use lib.ListN.{length, getD}
 use Rattle.lists.specs.Sums.{total, plus}
-use Rattle.lists.proofs.Sums.{zeros}
-use Rattle.split.proofs.Laws.{split-le}
+use Rattle.lists.proofs.Sums.{zeros, getD-zeros}
+use Rattle.split.proofs.Laws.{split-le, split-within, exceeds-none}
 use Rattle.ranks.specs.Ranks.{atRank, chargesOf}
 use Rattle.ranks.specs.Parts.{aboveRank}
-use Rattle.ranks.proofs.Laws.{length-charges, charges-within}
-use borrow.Author.Needs.{needs}
+use Rattle.ranks.proofs.Laws.{length-shares, length-charges, charges-within, charge-within}
 use Rattle.ranks.proofs.charge_by_rank.Statement.{statement}
 use Rattle.ranks.proofs.charge_by_rank.Tie as tie
 
@@ -18,33 +18,51 @@ returns : tie.Need-returns
 returns c =
     let s = c .before .before in
     let a = s .args in (
-      zeros
-          64
-          (chargesOf (a .sum) (a .t2) (a .ranks .now))
-          (omega (arith, length-charges (a .sum) (a .t2) (a .ranks .now) (omega arith)))
-          (omega (arith, charges-within (a .sum) (a .t2) (a .ranks .now))),
-      refl,
+      (
+        zeros
+            64
+            (chargesOf (a .sum) (a .weights .now) (a .ranks .now))
+            (omega (arith, length-charges (a .sum) (a .weights .now) (a .ranks .now) (omega arith)))
+            (omega (arith, charges-within (a .sum) (a .weights .now) (a .ranks .now))),
+        refl,
+      ),
+      sym (exceeds-none _ (a .weights .now) (λ k. omega (arith, getD-zeros 64 k))),
     )
 
 marginal-requires : tie.Need-marginal-requires
 marginal-requires c κs = search needs
 
-shares-requires : tie.Need-shares-requires
-shares-requires c κs = search needs
+share-marginal-requires : tie.Need-share-marginal-requires
+share-marginal-requires c κs =
+    let s = c .before .before .before .before in
+    let m = c .before .marginal .ensures in (
+      search needs,
+      record {
+        part-fits = omega (arith, m .part-fits, s .pre .sum-fits);
+        part-within = m .part-within;
+        whole-is = m .whole-is;
+        long = refl;
+        none = refl;
+      },
+    )
+
+sub-charge-above : tie.Need-sub-charge-above
+sub-charge-above c = c .before .before .before .marginal .ensures .charged-least
 
 charge-above-requires : tie.Need-charge-above-requires
 charge-above-requires c κs =
-    let a = c .before .before .before .before .before .before .before .before .args in
+    let s = c .before .before .before .before .before .before .before in
+    let a = s .args in
     let m = c .before .before .before .before .marginal in
-    let r = c .before .before .shares in (
-      search needs,
+    let r = c .before .before .share-marginal in (
+      (search needs, m .ensures .above-is),
       (
-        omega arith,
+        ap length (r .ensures .0) ∙ length-shares (a .weights .now) (a .ranks .now) (m .result .rank) (m .result .part) (s .pre .as-many ∙ sym (s .pre .long)) ∙ s .pre .long,
         λ k.
             omega (
               arith,
-              ap (λ (xs : List ℕ). getD xs k 0) (r .ensures),
-              split-le (m .result .part) (atRank (m .result .rank) (a .t2) (a .ranks .now)) k,
+              ap (λ (xs : List ℕ). getD xs k 0) (r .ensures .0),
+              split-le (m .result .part) (atRank (m .result .rank) (a .weights .now) (a .ranks .now)) k,
               m .ensures .part-fits,
             ),
       ),
@@ -52,14 +70,21 @@ charge-above-requires c κs =
 
 returns-2 : tie.Need-returns-2
 returns-2 c =
-    let a = c .before .before .before .before .before .before .before .before .before .args in
+    let a = c .before .before .before .before .before .before .before .before .args in
     let m = c .before .before .before .before .before .marginal in
+    let r = c .before .before .before .share-marginal in
+    let own : List ℕ = atRank (m .result .rank) (a .weights .now) (a .ranks .now) in
     let e =
     c .charge-above .ensures
-    ∙ ap (plus (aboveRank (m .result .rank) (a .t2) (a .ranks .now))) (c .before .before .before .shares .ensures)
-    ∙ m .ensures .charges in
-    (e, m .ensures .charged-is ∙ ap total (sym e))
+    ∙ ap (plus (aboveRank (m .result .rank) (a .weights .now) (a .ranks .now))) (r .ensures .0)
+    ∙ m .ensures .charges in (
+      (e, m .ensures .charged-is ∙ ap total (sym e)),
+      r .ensures .1
+          ∙ exceeds-none _ own (split-within (m .result .part) own (m .ensures .part-within))
+          ∙ sym (exceeds-none _ (a .weights .now) (λ k. rw e (charge-within (a .sum) (a .weights .now) (a .ranks .now) k))),
+    )
 
 pub charge-by-rank-spec : {M : Type 1} → statement M
 charge-by-rank-spec =
-    tie.close (tie.spec returns marginal-requires shares-requires charge-above-requires returns-2)
+    tie.close
+    (tie.spec returns marginal-requires share-marginal-requires sub-charge-above charge-above-requires returns-2)

@@ -26,8 +26,11 @@ loop-holds c =
     let t = c .before .before .rank-totals in (
       c .next-rank .ensures .at-most,
       omega arith,
-      going-next (a .sum) (a .weights .now) (a .ranks .now) (t .result) rankLimit (c .next-rank .result) (a .sum) (omega arith) (t .ensures) (c .next-rank .ensures) (going-start (a .sum) (a .weights .now) (a .ranks .now) (matched (a .weights .now) (a .ranks .now) (s .pre))),
+      going-next (a .sum) (a .weights .now) (a .ranks .now) (t .result) rankLimit (c .next-rank .result) (a .sum) (omega arith) (t .ensures) (c .next-rank .ensures) (going-start (a .sum) (a .weights .now) (a .ranks .now) (matched (a .weights .now) (a .ranks .now) (s .pre)) (s .pre .ranks-fit)),
     )
+
+cast-place : tie.Need-cast-place Inv-loop μ-loop
+cast-place c = search needs
 
 mul-whole : tie.Need-mul-whole Inv-loop μ-loop
 mul-whole c = search needs
@@ -60,11 +63,11 @@ loop-again c =
     let n = c .next-rank2 in (
       omega (arith, n .ensures .at-most),
       omega arith,
-      going-next (a .sum) (a .weights .now) (a .ranks .now) (t .result) (l .loop .rank - 1) (n .result) _ (omega arith) (t .ensures) (n .ensures) (going-turn (a .sum) (a .weights .now) (a .ranks .now) (l .loop .rank) (l .loop .left) _ (omega arith) (omega arith) (t .ensures .each (l .loop .rank) (omega arith) (omega arith)) (omega arith) (l .loop .inv .2)),
+      going-next (a .sum) (a .weights .now) (a .ranks .now) (t .result) (l .loop .rank - 1) (n .result) _ (omega arith) (t .ensures) (n .ensures) (going-turn (a .sum) (a .weights .now) (a .ranks .now) (l .loop .rank) (l .loop .left) _ (omega arith) (t .ensures .each (l .loop .rank) (omega arith) (omega arith)) (omega arith) (l .loop .inv .2)),
     )
 
-sub-t16 : tie.Need-sub-t16 Inv-loop μ-loop
-sub-t16 c = search needs
+sub-t18 : tie.Need-sub-t18 Inv-loop μ-loop
+sub-t18 c = search needs
 
 returns-2 : tie.Need-returns-2 Inv-loop μ-loop
 returns-2 c =
@@ -82,6 +85,7 @@ marginal-spec =
     rank-totals-requires
     next-rank-requires
     loop-holds
+    cast-place
     mul-whole
     array-read-whole
     returns
@@ -89,5 +93,5 @@ marginal-spec =
     next-rank-requires-2
     loop-less
     loop-again
-    sub-t16
+    sub-t18
     returns-2)

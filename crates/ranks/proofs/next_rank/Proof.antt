@@ -17,6 +17,9 @@ abbrev μ-loop : tie.MeasureT-loop
 loop-holds : tie.Need-loop-holds Inv-loop μ-loop
 loop-holds c = (omega arith, λ p a b. absurd (omega arith))
 
+cast-place : tie.Need-cast-place Inv-loop μ-loop
+cast-place c = search needs
+
 mul-if2 : tie.Need-mul-if2 Inv-loop μ-loop
 mul-if2 c = search needs
 
@@ -51,6 +54,7 @@ next-rank-spec =
     Inv-loop
     μ-loop
     loop-holds
+    cast-place
     mul-if2
     element-copy-out-if2
     sub-at

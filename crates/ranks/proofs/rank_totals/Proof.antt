@@ -6,7 +6,7 @@ use native.Mathlib.Omega.{arith}
 use lib.ListN.{length, getD, length-set}
 use borrow.Author.Needs.{needs}
 use Rattle.lists.specs.Limits.{rankLimit}
-use Rattle.ranks.proofs.Parts.{Adding, adding-start, adding-turn, adding-done, rank-of-le}
+use Rattle.ranks.proofs.Parts.{Adding, adding-start, adding-turn, adding-done}
 use Rattle.ranks.proofs.rank_totals.Statement.{statement}
 use Rattle.ranks.proofs.rank_totals.Tie as tie
 
@@ -16,20 +16,24 @@ Inv-loop weights ranks totals₀ i₀ totals i = (i ≤ 64) × (length totals �
 abbrev μ-loop : tie.MeasureT-loop
 μ-loop weights ranks totals₀ i₀ totals i = 64 - i
 
--- the rank that was read is a place of the table
-rank : (c : tie.After-totals Inv-loop μ-loop) → c .before .rank-of .result ≤ rankLimit
-rank c = omega (arith, c .before .rank-of .ensures, rank-of-le (getD (c .before .before .before .before .before .before .args .ranks .now) (c .before .before .before .before .loop .i) 0))
-
 loop-holds : tie.Need-loop-holds Inv-loop μ-loop
 loop-holds c =
-    let a = c .before .args in
+    let a = c .args in
     (zero-le, refl, adding-start 65 (a .weights .now) (a .ranks .now))
 
-shared-slice-read-rank-of : tie.Need-shared-slice-read-rank-of Inv-loop μ-loop
-shared-slice-read-rank-of c = search needs
+shared-slice-read-rank : tie.Need-shared-slice-read-rank Inv-loop μ-loop
+shared-slice-read-rank c = search needs
 
-rank-of-requires : tie.Need-rank-of-requires Inv-loop μ-loop
-rank-of-requires c κs = search needs
+cast-rank : tie.Need-cast-rank Inv-loop μ-loop
+cast-rank c =
+    let l = c .before .before in
+    record { fits = omega (arith, l .before .pre .ranks-fit (l .loop .i)) }
+
+-- the rank that was read is a place of the table
+rank : (c : tie.After-totals Inv-loop μ-loop) → let l = c .before .before .before in getD (l .before .args .ranks .now) (l .loop .i) 0 ≤ rankLimit
+rank c =
+    let l = c .before .before .before in
+    l .before .pre .ranks-fit (l .loop .i)
 
 mul-totals : tie.Need-mul-totals Inv-loop μ-loop
 mul-totals c = search needs
@@ -45,8 +49,8 @@ array-read-totals c = omega (arith, rank c)
 
 add-totals : tie.Need-add-totals Inv-loop μ-loop
 add-totals c =
-    let l = c .before .before .before .before in
-    omega (arith, l .loop .inv .2 .1 (c .before .rank-of .result), l .before .before .pre .weights-fit (l .loop .i))
+    let l = c .before .before .before in
+    omega (arith, l .loop .inv .2 .1 (getD (l .before .args .ranks .now) (l .loop .i) 0), l .before .pre .weights-fit (l .loop .i))
 
 array-write-totals : tie.Need-array-write-totals Inv-loop μ-loop
 array-write-totals c = omega (arith, rank c)
@@ -59,17 +63,17 @@ loop-less c = search needs
 
 loop-again : tie.Need-loop-again Inv-loop μ-loop
 loop-again c =
-    let l = c .before .before .before .before in
-    let a = l .before .before .args in (
+    let l = c .before .before .before in
+    let a = l .before .args in (
       omega arith,
       simp length-set (l .loop .inv .1),
-      adding-turn (l .loop .totals) (a .weights .now) (a .ranks .now) (l .loop .i) (c .before .rank-of .result) (omega arith) (omega arith) (omega (arith, rank c)) (c .before .rank-of .ensures) (l .before .before .pre .weights-fit (l .loop .i)) (l .loop .inv .2),
+      adding-turn (l .loop .totals) (a .weights .now) (a .ranks .now) (l .loop .i) (getD (a .ranks .now) (l .loop .i) 0) (omega arith) (omega arith) (omega (arith, rank c)) refl (l .before .pre .weights-fit (l .loop .i)) (l .loop .inv .2),
     )
 
 returns : tie.Need-returns Inv-loop μ-loop
 returns c =
     let l = c .before in
-    let a = l .before .before .args in
+    let a = l .before .args in
     adding-done (l .loop .totals) (a .weights .now) (a .ranks .now) (l .loop .i) (omega arith) (l .loop .inv .2)
 
 pub rank-totals-spec : {M : Type 1} → statement M
@@ -79,8 +83,8 @@ rank-totals-spec =
     Inv-loop
     μ-loop
     loop-holds
-    shared-slice-read-rank-of
-    rank-of-requires
+    shared-slice-read-rank
+    cast-rank
     mul-totals
     element-copy-out-totals
     mul-totals-2

@@ -2,14 +2,16 @@
 -- behind them, are the split of the whole.
 use Prim.Native.Nat.{ℕ, _+_, _-_, _≤_}
 use mathlib.Core.Path.{_≡_, refl}
+use mathlib.Core.Bool.{_||_}
 use mathlib.Core.List.{List, _++_}
 use native.Mathlib.Omega.{arith}
 use lib.ListN.{length, getD, take, drop, length-set}
 use borrow.Author.Needs.{needs}
 use Rattle.lists.specs.Sums.{total}
+use Rattle.lists.proofs.Checks.{any-turn, any-done}
 use Rattle.lists.proofs.Sums.{total-step}
-use Rattle.split.specs.Split.{splitOf}
-use Rattle.split.proofs.Laws.{split-turn, split-done, share-le-left}
+use Rattle.split.specs.Split.{splitOf, exceeds}
+use Rattle.split.proofs.Laws.{split-turn, split-done, exceeds-turn, exceeds-end, share-le-left}
 use Rattle.split.proofs.split.Statement.{statement}
 use Rattle.split.proofs.split.Tie as tie
 use Rattle.split.proofs.split.Reads as reads
@@ -17,12 +19,13 @@ use Rattle.split.proofs.split.Lts as lts
 use Rattle.split.proofs.share.Reads as share-reads
 
 abbrev Inv-loop : tie.InvT-loop
-Inv-loop sum whole weights shares₀ left₀ rest₀ i₀ shares left rest i =
+Inv-loop sum whole weights shares₀ left₀ rest₀ over₀ i₀ shares left rest over i =
     (i ≤ length weights) × (length shares ≡ length weights) × (left ≤ sum) × (rest ≡ total (drop i weights))
     × (take i shares ++ splitOf left (drop i weights) ≡ splitOf sum weights)
+    × ((over || exceeds (splitOf left (drop i weights)) (drop i weights)) ≡ exceeds (splitOf sum weights) weights)
 
 abbrev μ-loop : tie.MeasureT-loop
-μ-loop sum whole weights shares₀ left₀ rest₀ i₀ shares left rest i = length weights - i
+μ-loop sum whole weights shares₀ left₀ rest₀ over₀ i₀ shares left rest over i = length weights - i
 
 -- in a turn, the weights that are left are this one and those after it
 module _ (c : tie.In-loop Inv-loop μ-loop) where
@@ -35,7 +38,7 @@ module _ (c : tie.In-loop Inv-loop μ-loop) where
 
 loop-holds : tie.Need-loop-holds Inv-loop μ-loop
 loop-holds c =
-    let p = c .before .before .pre in (omega arith, p .as-many, omega arith, p .whole-is, refl)
+    let p = c .before .before .pre in (omega arith, p .as-many, omega arith, p .whole-is, refl, refl)
 
 mul-weight : tie.Need-mul-weight Inv-loop μ-loop
 mul-weight c = search needs
@@ -85,6 +88,7 @@ loop-again c =
       omega arith,
       omega (arith, turn t),
       split-turn (l .left) (weights t) (l .shares) _ (l .i) (l .rest) _ (omega arith) (omega arith) (l .inv .3) (c .share .ensures) (l .inv .4),
+      any-turn (l .over) _ _ _ _ _ refl (exceeds-turn (l .left) (weights t) (l .i) (l .rest) _ (omega arith) (l .inv .3) (c .share .ensures)) (l .inv .5),
     )
 
 same-length : tie.Need-same-length Inv-loop μ-loop
@@ -92,15 +96,10 @@ same-length c = omega arith
 
 returns : tie.Need-returns Inv-loop μ-loop
 returns c =
-    split-done
-    _
-    _
-    _
-    _
-    (c .before .loop .i)
-    (omega arith)
-    (omega arith)
-    (c .before .loop .inv .4)
+    let l = c .before .loop in (
+      split-done _ _ _ _ (l .i) (omega arith) (omega arith) (l .inv .4),
+      any-done _ _ _ (exceeds-end _ _ (l .i) (omega arith)) (l .inv .5),
+    )
 
 pub split-spec : {M : Type 1} → statement M
 split-spec =

@@ -11,15 +11,15 @@ use base.Logic.{SProp, ent, sep, snd∗, exE, id⊢}
 use base.Fml.{GName, Lft, Share, ftrue, fat, flft, fobs, fbor}
 use prog.Memory.{Memory}
 use prog.Routine.{Routine}
-use prog.Wp.{Heap, Calls, Loops, WpFn, Tables}
+use prog.Wp.{Heap, Calls, Loops, WpFn}
 use ghost.Atoms.{Atoms, sem}
 use contract.Monad.{Fun, fact}
-use contract.Running.{givenOf, tables, tablesOf}
+use contract.Running.{givenOf}
 use types.Kit.{Given, ‵, raw, _⊛_, some, later, _$_, _∵_, !, qed, by, move, keep, drop, use1, split, join, rewrite, pick, fsplit, fsplit3, fjoin, fjoin3, feqI, suffices, frame, await, done}
 use types.Run.{look, look-raw, init, store-raw, forget, stop, hop, fld, from, load, of-opd, and-then, no-more, assigns, land, returns, enter, alloc1, alloc0, params1, pass1, pass0, free1, free0}
 use types.Part.{whole, sub, look-in}
 use types.SemTy.{Body}
-use sound.WpLaws.{FmC, fmOf, WpFn-mono}
+use sound.WpLaws.{FmC}
 use denote.RattleType.{owns}
 use denote.Laws.{Is, shows}
 use denote.Memory.{mem}
@@ -32,9 +32,8 @@ use denote.Enum.Laws as EL
 use denote.Triple.Statement.{Contract, Triple}
 use denote.Triple.Call.{calls-at}
 use denote.Triple.Entry.{onEntry}
-use denote.Triple.Spec.{Meets, tripleOf}
-use denote.Triple.Table.{entered, cited}
-use denote.Triple.Walked.{says, needs, Stays, stay-ref, walkOf, AllGo, goes-ref, Walks, ends-at, walked, walk-meets}
+use denote.Triple.Spec.{tripleOf}
+use denote.Triple.Walked.{says, needs, Stays, stay-ref, walkOf, AllGo, goes-ref, Walks, ends-at, walked}
 use denote.Triple.Clauses.{ensured, lasts}
 use Rattle.waterfall.specs.Register.{GivenBack}
 use Rattle.waterfall.specs.Calls.{closeOf}
@@ -47,6 +46,7 @@ use Rattle.waterfall.proofs.Outcome.Laws as O′
 use Rattle.waterfall.proofs.Reply as R
 use Rattle.waterfall.proofs.Reply.Laws as R′
 use Rattle.drill.proofs.Outcomes.{vals, reply-val, first-of, register-is, reply-is}
+use Rattle.drill.proofs.Wrapped.{wraps, walk-wraps}
 use Rattle.waterfall.proofs.close.close as call
 use Rattle.waterfall.proofs.close.close.Symbol as call-def
 use Rattle.waterfall.proofs.close.close.Symbol.{name as #waterfall·close·close}
@@ -131,16 +131,8 @@ module _ {M : Type 1} (𝓤 : URA M) (H : Heap 𝓤) (A : Atoms 𝓤) (W : Given
   goes : AllGo 𝓤 H A W 1 (close.signature .params) (close.ended .kept) stayed
   goes = (goes-ref 𝓤 H A W 1 0 tt (plain (λ _. T.the-row)), tt)
 
-meets : {M : Type 1} (𝓤 : URA M) (H : Heap 𝓤) (A : Atoms 𝓤) (W : Given 𝓤 H A) (at-mem : Memory → SProp 𝓤) (run : Routine → Fun 𝓤) (𝓣 : Tables 𝓤 H)
-    → Triple 𝓤 (𝓣 .C #waterfall·close·close) (Call 𝓤 H A at-mem run)
-    → Meets 𝓤 H A close.signature (WpFn 𝓤 H (𝓣 .C) (𝓣 .Λ) code.function) (close.spec 𝓤 H A at-mem run)
-meets 𝓤 H A W at-mem run 𝓣 known = walk-meets 𝓤 H A close.ended stayed W (goes 𝓤 H A W at-mem run) (close.clauses 𝓤 H A at-mem run) (WpFn 𝓤 H (𝓣 .C) (𝓣 .Λ) code.function) (WpFn-mono 𝓤 H (W .laws) 𝓣 code.function)
-    (walks 𝓤 H A W at-mem run (𝓣 .C) (𝓣 .Λ) (fmOf 𝓤 H (W .laws) 𝓣) known)
-
 pub close-spec : {M : Type 1} → stated.statement M
-unfolding code.routine tablesOf
+unfolding code.routine
 close-spec 𝓤 H 𝓜 𝓖 𝓡 =
-    entered 𝓤 H (tripleOf 𝓤 H (𝓖 .A) close.signature (close.spec 𝓤 H (𝓖 .A) (𝓜 .mem) (𝓡 .run)))
-    (tables 𝓤 H 𝓜 𝓡 code.env .C) (tables 𝓤 H 𝓜 𝓡 code.env .Λ) #drill·in-place·close code.function (code.unfolded 𝓤 H 𝓜 𝓡)
-    (meets 𝓤 H (𝓖 .A) (givenOf 𝓤 H 𝓜 𝓖) (𝓜 .mem) (𝓡 .run) (tablesOf 𝓤 H 𝓜 (tables 𝓤 H 𝓜 𝓡 code.env))
-    (cited 𝓤 H (Call 𝓤 H (𝓖 .A) (𝓜 .mem) (𝓡 .run)) 𝓜 𝓡 code.env #waterfall·close·close call-def.routine code.calls-waterfall·close·close (call-thm.met 𝓤 H 𝓜 𝓖 𝓡)))
+    wraps 𝓤 H 𝓜 𝓡 code.env (Call 𝓤 H (𝓖 .A) (𝓜 .mem) (𝓡 .run)) #waterfall·close·close call-def.routine code.calls-waterfall·close·close (call-thm.met 𝓤 H 𝓜 𝓖 𝓡) _ #drill·in-place·close code.function (code.unfolded 𝓤 H 𝓜 𝓡)
+    (walk-wraps 𝓤 H (𝓖 .A) close.ended stayed (givenOf 𝓤 H 𝓜 𝓖) (goes 𝓤 H (𝓖 .A) (givenOf 𝓤 H 𝓜 𝓖) (𝓜 .mem) (𝓡 .run)) (close.clauses 𝓤 H (𝓖 .A) (𝓜 .mem) (𝓡 .run)) _ _ _ (walks 𝓤 H (𝓖 .A) (givenOf 𝓤 H 𝓜 𝓖) (𝓜 .mem) (𝓡 .run)))

@@ -10,7 +10,8 @@ use mathlib.Core.List.{map}
 use Rattle.lists.specs.Limits.{memberLimit}
 use Rattle.waterfall.specs.Register.{live}
 use Rattle.waterfall.specs.Default.{misranked}
-use Rattle.waterfall.proofs.Places.{any-turn, any-done, misranked-step, misranked-end}
+use Rattle.lists.proofs.Checks.{any-turn, any-done}
+use Rattle.waterfall.proofs.Places.{misranked-step, misranked-end}
 use Rattle.waterfall.proofs.declaration.misranked.Statement.{statement}
 use Rattle.waterfall.proofs.declaration.misranked.Tie as tie
 

@@ -1,7 +1,7 @@
 -- `waterfall::declaration::rooms_of` meets its contract. The loop's invariant: the rooms found so far, with the rest behind them, are the
 -- whole result, and so are their totals.
 use Prim.Native.Nat.{_≤_, _+_, _-_}
-use mathlib.Core.Path.{_≡_, refl, ap, sym, _∙_}
+use mathlib.Core.Path.{_≡_, refl, ap}
 use mathlib.Core.List.{_∷_, _++_, map}
 use native.Mathlib.Omega.{arith}
 use borrow.Author.Needs.{needs}

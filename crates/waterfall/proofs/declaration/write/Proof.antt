@@ -1,5 +1,5 @@
 -- `waterfall::declaration::write` meets its contract. The loop's invariant: the first figures are pasted in.
-use Prim.Native.Nat.{_≤_, _+_, _-_}
+use Prim.Native.Nat.{_≤_, _-_}
 use mathlib.Core.Path.{_≡_, refl}
 use native.Mathlib.Omega.{arith}
 use native.Mathlib.Numerals.{add-one}

@@ -1,106 +1,61 @@
 -- `waterfall::payment::pay` meets its contract.
-use Prim.Native.Nat.{_≤_, _<_, _-_}
-use mathlib.Core.Path.{_≡_, refl}
+use mathlib.Core.Bool.{_||_}
 use native.Mathlib.Omega.{arith}
 use borrow.Author.Needs.{needs}
-use lib.ListN.{getD}
-use Rattle.lists.specs.Limits.{memberLimit}
-use Rattle.lists.proofs.Checks.{check-yes, check-no}
+use lib.Dec.{eqb, ltb}
 use Rattle.waterfall.specs.Calls.{paidOf, paymentOf}
-use Rattle.waterfall.specs.Register.{figure, GivenBack}
-use Rattle.waterfall.specs.declared.Outcome.{Outcome}
-use Rattle.waterfall.proofs.Figures.{figure-at}
-use Rattle.waterfall.proofs.Answer.{answered, not-in, in-default, stands, place, fit}
+use Rattle.waterfall.specs.Register.{figure}
+use Rattle.waterfall.proofs.Answer.{AmountCall, amount-call, fit}
 use Rattle.waterfall.proofs.Given.{given-payment}
 use Rattle.waterfall.proofs.payment.pay.Statement.{statement}
 use Rattle.waterfall.proofs.payment.pay.Tie as tie
 
--- the answer by the definition, with the register that it gives back
-answer : {o : Outcome} (c : tie.Start) → let a = c .args in o ≡ paymentOf (a .t1) (a .member) (a .amount) → (o ≡ paymentOf (a .t1) (a .member) (a .amount)) × GivenBack (o .register)
-answer c e = answered _ (given-payment (c .args .t1) (c .args .member) (c .args .amount) (c .pre)) e
+-- the call by its number, at what is outstanding
+module _ (c : tie.After-amount-refusal) where
+  abbrev due : tie.After-figure-of
+  due = c .before .before .before
 
--- where the member's figures stand
-module _ (c : tie.Else1) where
-  at : let a = c .before .before .before .before .args in (0 < a .member) × (a .member ≤ memberLimit)
-  at =
-      let s = c .before in
-      let b = s .before .before .before in
-      place (b .args .t1) _ _ (b .pre) (s .status-of .ensures) (c .if1 .left)
+  call : let a = due .before .before .before .args in
+      AmountCall (a .t1) (a .member) 16 (eqb (a .amount) 0 || ltb (figure (a .t1 .outstanding) (a .member)) (a .amount)) (paidOf (a .t1) (a .member) (a .amount)) (c .amount-refusal .result)
+  unfolding paymentOf
+  call =
+      let b = due .before .before .before in
+      amount-call _ _ 16 _ _ _ (omega arith) (b .pre) (given-payment (b .args .t1) (b .args .member) (b .args .amount) (b .pre)) (rw (due .figure-of .ensures) at (c .amount-refusal .ensures))
 
-  due-is : let a = c .before .before .before .before .args in figure (a .t1 .outstanding) (a .member) ≡ getD (a .t1 .outstanding) (a .member - 1) 0
-  due-is = figure-at _ _ (at .0)
+figure-of-requires : tie.Need-figure-of-requires
+figure-of-requires c κs = search needs
 
-status-of-requires : tie.Need-status-of-requires
-status-of-requires c κs = search needs
+amount-refusal-requires : tie.Need-amount-refusal-requires
+amount-refusal-requires c κs = search needs
 
 returns : tie.Need-returns
 unfolding paymentOf
-returns c =
-    let s = c .before in
-    answer (s .before .before .before) (not-in _ _ _ _ _ (s .status-of .ensures) (c .if1 .taken) refl)
+returns c = call (c .before) .refused (c .if1 .taken)
+
+sub-replace : tie.Need-sub-replace
+sub-replace c =
+    let i = c .before in
+    let a = due (i .before) .before .before .before .args in
+    omega (arith, due (i .before) .figure-of .ensures, fit (a .amount) (a .amount) (figure (a .t1 .outstanding) (a .member)) (call (i .before) .fits (i .if1 .left)))
+
+replace-requires : tie.Need-replace-requires
+replace-requires c κs =
+    let i = c .before in
+    (due (i .before) .before .before .before .pre .outstanding-length, call (i .before) .within (i .if1 .left))
 
 returns-2 : tie.Need-returns-2
-unfolding paymentOf
-returns-2 c =
-    let s = c .before .before in
-    answer (s .before .before .before) (in-default _ _ _ _ _ (s .status-of .ensures) (c .before .if1 .left) (c .if2 .taken) refl)
-
-sub-at : tie.Need-sub-at
-sub-at c = omega (arith, at (c .before))
-
-mul-due : tie.Need-mul-due
-mul-due c = omega (arith, at (c .before))
-
-element-copy-out-due : tie.Need-element-copy-out-due
-element-copy-out-due c = omega (arith, at (c .before))
-
-unfit-requires : tie.Need-unfit-requires
-unfit-requires c κs = search needs
-
-returns-3 : tie.Need-returns-3
-unfolding paymentOf
-returns-3 c =
-    let u = c .before in
-    let i = u .before .before .before in
-    let s = i .before in
-    answer (s .before .before .before)
-    (stands _ _ _ _ _ (s .status-of .ensures) (i .if1 .left) (u .before .before .if2 .left)
-    (check-yes _ _ _ (u .unfit .result) (rw (due-is i) (u .unfit .ensures)) (c .if3 .taken)
-    refl))
-
-sub-next : tie.Need-sub-next
-sub-next c = fit _ _ _ (c .before .unfit .ensures) (c .if3 .left)
-
-mul-next : tie.Need-mul-next
-mul-next c = omega (arith, at (c .before .before .before .before))
-
-element-write-next : tie.Need-element-write-next
-element-write-next c = omega (arith, at (c .before .before .before .before))
-
-returns-4 : tie.Need-returns-4
 unfolding paymentOf paidOf
-returns-4 c =
-    let u = c .before in
-    let i = u .before .before .before in
-    let s = i .before in
-    answer (s .before .before .before)
-    (stands _ _ _ _ _ (s .status-of .ensures) (i .if1 .left) (u .before .before .if2 .left)
-    (check-no _ _ _ (u .unfit .result) (rw (due-is i) (u .unfit .ensures)) (c .if3 .left)
-    (rw (due-is i))))
+returns-2 c =
+    let i = c .before .before in
+    rw (c .replace .ensures, due (i .before) .figure-of .ensures) (call (i .before) .accepted (i .if1 .left))
 
 pub pay-spec : {M : Type 1} → statement M
 pay-spec =
     tie.close
     (tie.spec
-    status-of-requires
+    figure-of-requires
+    amount-refusal-requires
     returns
-    returns-2
-    sub-at
-    mul-due
-    element-copy-out-due
-    unfit-requires
-    returns-3
-    sub-next
-    mul-next
-    element-write-next
-    returns-4)
+    sub-replace
+    replace-requires
+    returns-2)

@@ -1,16 +1,16 @@
 -- `waterfall::sheet::read` meets its contract. The loop's invariant: what is refused of the records that are left is what is refused of
 -- the sheet, and with them entered the register is the opening's.
 use Prim.Native.Nat.{ℕ, _≤_, _+_, _-_}
-use mathlib.Core.Path.{_≡_, refl, sym, ap, _∙_}
+use mathlib.Core.Path.{_≡_, sym, ap, _∙_}
 use mathlib.Core.List.{List}
 use native.Mathlib.Omega.{arith}
 use borrow.Author.Needs.{needs}
 use Rattle.lists.specs.Limits.{memberLimit, contributionFloor}
 use Rattle.lists.proofs.Fill.{rest-of}
 use Rattle.sheets.specs.Bytes.{recordAt}
-use Rattle.sheets.specs.Members.{entryOf, numberOf}
+use Rattle.sheets.specs.Members.{entryOf}
 use Rattle.sheets.specs.Sheet.{refusal, memberRefusalFrom, memberRefusal}
-use Rattle.sheets.proofs.Laws.{InOrder, entry-figures, sized, record-whole, member-begins, member-refused-here, member-refuses, member-passed-on, member-ends}
+use Rattle.sheets.proofs.Laws.{InOrder, entry-figures, record-whole, member-begins, member-refused-here, member-refuses, member-passed-on, member-ends}
 use Rattle.waterfall.specs.Opening.{enteredFrom, openingRegister}
 use Rattle.waterfall.proofs.Reading.{entered-begins, entered-turn, entered-ends, entered, opened-refused, opened-accepted}
 use Rattle.waterfall.proofs.sheet.read.Statement.{statement}

@@ -1,16 +1,14 @@
 -- A sheet of which no record is refused: each record is in order.
-use Prim.Native.Nat.{ℕ, zero, suc, _+_, _<_}
-use mathlib.Core.Path.{_≡_, refl, ap, sym, _∙_}
-use mathlib.Core.Bool.{Bool, true, false}
+use Prim.Native.Nat.{ℕ, zero, suc, _+_}
+use mathlib.Core.Path.{_≡_, refl, ap, _∙_}
+use mathlib.Core.Bool.{false}
 use mathlib.Core.List.{List}
 use native.Mathlib.Omega.{arith}
-use lib.Dec.{ltb}
-use borrow.Author.Tests.{ltb-true, ltb-false}
-use Rattle.lists.specs.Checks.{check}
+use borrow.Author.Tests.{ltb-true}
 use Rattle.lists.proofs.Checks.{no-refusal, check-past, check-by}
 use Rattle.sheets.specs.Bytes.{recordAt, nonzero}
 use Rattle.sheets.specs.Members.{memberAt, firstAt, secondAt, thirdAt, entryOf, numberOf}
-use Rattle.sheets.specs.Sheet.{refusal, accepted, recordCount, memberRefusalFrom, memberRefusal}
+use Rattle.sheets.specs.Sheet.{accepted, recordCount, memberRefusalFrom, memberRefusal}
 use Rattle.sheets.specs.declared.Entry.{Entry}
 use Rattle.sheets.specs.declared.Entry.the-variants.{Outside, Missing, Excessive, NotRising, Figures}
 use Rattle.sheets.specs.declared.Refusal.{Refusal}

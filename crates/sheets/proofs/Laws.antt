@@ -1,7 +1,7 @@
 -- What the callers know of a record that is in order, of a sheet of the right size, and of a sheet that is read record by record.
 use Prim.Native.Nat.{ℕ, suc, _+_, _-_, _*_, _%_, _≤_, _<_}
 use mathlib.Core.Path.{_≡_, refl, ap, sym, _∙_}
-use mathlib.Core.Bool.{Bool, true, false, not}
+use mathlib.Core.Bool.{true, false, not}
 use mathlib.Core.List.{List, [], _∷_}
 use mathlib.Core.Logic.{_⊎_, inl, inr, ⊎-elim}
 use native.Mathlib.Omega.{arith}
@@ -263,6 +263,13 @@ module _ (floor : ℕ) (sheet : List ℕ) (count i last : ℕ) (more : i < count
       ∙ sym (check-lt _ _ 0 (numberOf found) (rw q h) refl)
       ∙ ap (λ (x : Entry). refusal (numberOf x) (i + 1)) q
 
+  -- said of the number that a caller was given
+  pub member-refused-as : (e : Entry) (n : ℕ) → entryOf floor last (recordAt sheet i) ≡ e → OneOf (0 ∷ 1 ∷ 2 ∷ 3 ∷ []) (tagOf Entry'.the-type e) → n ≡ numberOf e
+      → (0 < n) × (refusal n (i + 1) ≡ memberRefusalFrom floor (count - i) sheet i last)
+  member-refused-as e n q k h =
+      let p = member-refuses e k in
+      (omega arith, ap (λ (m : ℕ). refusal m (i + 1)) h ∙ sym (member-refused-here e q p))
+
   pub member-passed-on : (m a b c : ℕ) → entryOf floor last (recordAt sheet i) ≡ Figures m a b c
       → memberRefusalFrom floor (count - i) sheet i last ≡ memberRefusalFrom floor (count - (i + 1)) sheet (i + 1) m
   member-passed-on m a b c q =
@@ -301,6 +308,12 @@ module _ (sheet : List ℕ) (count i : ℕ) (before : Before) (more : i < count)
       stress-one
       ∙ sym (check-lt _ _ 0 (stressNumber stress-found) (rw q h) refl)
       ∙ ap (λ (x : Stress). refusal (stressNumber x) (i + 1)) q
+
+  pub stress-refused-as : (e : Stress) (n : ℕ) → stressOf before (recordAt sheet i) ≡ e → OneOf (0 ∷ 1 ∷ 2 ∷ 3 ∷ 4 ∷ []) (tagOf Stress'.the-type e) → n ≡ stressNumber e
+      → (0 < n) × (refusal n (i + 1) ≡ stressRefusalFrom (count - i) sheet i before)
+  stress-refused-as e n q k h =
+      let p = stress-refuses e k in
+      (omega arith, ap (λ (m : ℕ). refusal m (i + 1)) h ∙ sym (stress-refused-here e q p))
 
   pub stress-passed-on : (loss weak : ℕ) (next : Before) → stressOf before (recordAt sheet i) ≡ Loss loss weak next
       → stressRefusalFrom (count - i) sheet i before ≡ stressRefusalFrom (count - (i + 1)) sheet (i + 1) next

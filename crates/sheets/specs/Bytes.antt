@@ -1,6 +1,6 @@
 -- Document 01, "The opening register": "records of 16 bytes, no header, numbers little-endian".
 use Prim.Native.Nat.{ℕ, _+_, _*_}
-use mathlib.Core.Bool.{Bool, _||_, not}
+use mathlib.Core.Bool.{Bool, _||_}
 use mathlib.Core.List.{List}
 use lib.Dec.{eqb, ltb}
 use lib.ListN.{getD, drop}
@@ -18,6 +18,10 @@ le16 s at = byte s at + byte s (at + 1) * 256
 
 unfoldable pub le32 : List ℕ → ℕ → ℕ
 le32 s at = byte s at + byte s (at + 1) * 256 + byte s (at + 2) * 65_536 + byte s (at + 3) * 16_777_216
+
+-- one of eight bytes: no sheet has one, but some tests are made on eight bytes at once
+unfoldable pub le64 : List ℕ → ℕ → ℕ
+le64 s at = le32 s at + le32 s (at + 4) * 4_294_967_296
 
 -- "Hexadecimal FFFFFFFF means missing."
 abbrev pub missingAmount : ℕ

@@ -1,4 +1,5 @@
-// A record of a stress sheet: one function for each of document 01's refusals 4 to 8, and the record by them.
+// A record of a stress sheet: document 01's refusals 4 to 8, and the record by them. 4, 5 and 6 are tried together first, and one by one
+// where a record is refused.
 use crate::AMOUNT_LIMIT;
 use crate::Before;
 use crate::DAY_LIMIT;
@@ -11,23 +12,32 @@ use crate::bytes::beyond;
 use crate::bytes::byte;
 use crate::bytes::le16;
 use crate::bytes::le32;
+use crate::bytes::le64;
 use crate::bytes::nonzero;
 ghost use mathlib.Core.Path.{_≡_};
-ghost use Prim.Native.Nat.{_≤_};
-ghost use lib.Dec.{ltb};
+ghost use mathlib.Core.Bool.{true, not};
+ghost use Prim.Native.Nat.{_+_, _≤_};
 ghost use lib.ListN.{length};
-ghost use Rattle.lists.specs.Limits.{amountLimit, weakLimit};
+ghost use Rattle.lists.specs.Limits.{weakLimit};
 ghost use Rattle.sheets.specs.Bytes.{absentAmount};
-ghost use Rattle.sheets.specs.Stress.{lossAt, weakAt, sameBlock, flagsBefore, passed, stressOutside, stressRises, sixthWeak, stressOf, stressNumber};
+ghost use Rattle.sheets.specs.Stress.{lossAt, weakAt, sameBlock, laterBlock, flagsBefore, passed, stressBeyond, stressOutside, stressFaulty, stressRises, stressOf, stressNumber};
+
+// Whether day, scenario, member and flag are within their values.
+fn valued(s: &[u8]) -> bool
+    requires { ⌜ 16 ≤ length (now s) ⌝ }
+    ensures { λ r. ⌜ r ≡ not (stressBeyond (now (s .entry))) ⌝ }
+{
+    !beyond(1, DAY_LIMIT, le16(s, 0))
+        & !beyond(1, SCENARIO_LIMIT, le16(s, 2))
+        & !beyond(1, MEMBER_LIMIT, byte(s, 4))
+        & !beyond(0, 1, byte(s, 5))
+}
 
 fn outside(s: &[u8]) -> bool
     requires { ⌜ 16 ≤ length (now s) ⌝ }
     ensures { λ r. ⌜ r ≡ stressOutside (now (s .entry)) ⌝ }
 {
-    beyond(1, DAY_LIMIT, le16(s, 0))
-        | beyond(1, SCENARIO_LIMIT, le16(s, 2))
-        | beyond(1, MEMBER_LIMIT, byte(s, 4))
-        | beyond(0, 1, byte(s, 5))
+    !valued(s)
         | nonzero(s, 6)
         | nonzero(s, 7)
         | nonzero(s, 12)
@@ -43,24 +53,27 @@ fn missing(s: &[u8]) -> bool
     absent(le32(s, 8))
 }
 
-fn excessive(s: &[u8]) -> bool
+// Whether none of 4, 5 and 6 refuses the record. Bytes 8 to 15 are one number here: it is the loss where the last four are zero, and
+// above every limit where they are not.
+fn sound(s: &[u8]) -> bool
     requires { ⌜ 16 ≤ length (now s) ⌝ }
-    ensures { λ r. ⌜ r ≡ ltb amountLimit (lossAt (now (s .entry))) ⌝ }
+    ensures { λ r. ⌜ r ≡ not (stressFaulty (now (s .entry))) ⌝ }
 {
-    AMOUNT_LIMIT < le32(s, 8)
+    valued(s) & (le16(s, 6) == 0) & (le64(s, 8) <= AMOUNT_LIMIT)
 }
 
-fn rises(before: Before, s: &[u8]) -> bool
-    requires { ⌜ 16 ≤ length (now s) ⌝ }
-    ensures { λ r. ⌜ r ≡ stressRises before (now (s .entry)) ⌝ }
+// The first of 4, 5 and 6 that refuses the record, where one does.
+fn fault(s: &[u8]) -> Stress
+    requires { ⌜ (16 ≤ length (now s)) × (stressFaulty (now s) ≡ true) ⌝ }
+    ensures { λ r. ⌜ ((before : Before) → r ≡ stressOf before (now (s .entry))) ⌝ }
 {
-    let day = le16(s, 0);
-    let scenario = le16(s, 2);
-    let member = byte(s, 4);
-    (before.day < day)
-        | ((day == before.day)
-            & ((before.scenario < scenario)
-                | ((scenario == before.scenario) & (before.member < member))))
+    if outside(s) {
+        return Stress::Outside;
+    }
+    if missing(s) {
+        return Stress::Missing;
+    }
+    Stress::Excessive
 }
 
 fn same_block(before: Before, s: &[u8]) -> bool
@@ -70,44 +83,51 @@ fn same_block(before: Before, s: &[u8]) -> bool
     (le16(s, 0) == before.day) & (le16(s, 2) == before.scenario)
 }
 
-fn flags_before(before: Before, s: &[u8]) -> u64
-    requires { ⌜ (16 ≤ length (now s)) × (before .flags ≤ weakLimit) ⌝ }
-    ensures { λ r. ⌜ (r ≡ flagsBefore before (now (s .entry))) × (r ≤ weakLimit) ⌝ }
+fn later_block(before: Before, s: &[u8]) -> bool
+    requires { ⌜ 16 ≤ length (now s) ⌝ }
+    ensures { λ r. ⌜ r ≡ laterBlock before (now (s .entry)) ⌝ }
 {
-    if same_block(before, s) {
-        before.flags
-    } else {
-        0
+    let day = le16(s, 0);
+    (before.day < day) | ((day == before.day) & (before.scenario < le16(s, 2)))
+}
+
+// Within a block the members rise, and of two blocks the later follows.
+fn rises(before: Before, same: bool, s: &[u8]) -> bool
+    requires { ⌜ (16 ≤ length (now s)) × (same ≡ sameBlock before (now s)) ⌝ }
+    ensures { λ r. ⌜ r ≡ stressRises before (now (s .entry)) ⌝ }
+{
+    if same {
+        return before.member < byte(s, 4);
     }
+    later_block(before, s)
 }
 
-fn sixth_weak(before: Before, s: &[u8]) -> bool
-    requires { ⌜ (16 ≤ length (now s)) × (before .flags ≤ weakLimit) ⌝ }
-    ensures { λ r. ⌜ r ≡ sixthWeak before (now (s .entry)) ⌝ }
+// The weak flags of the record's block up to the record, its own included.
+fn flags_to(before: Before, same: bool, s: &[u8]) -> u64
+    requires { ⌜ (16 ≤ length (now s)) × (before .flags ≤ weakLimit) × (same ≡ sameBlock before (now s)) ⌝ }
+    ensures { λ r. ⌜ r ≡ flagsBefore before (now (s .entry)) + weakAt (now (s .entry)) ⌝ }
 {
-    WEAK_LIMIT < flags_before(before, s) + byte(s, 5)
+    let weak = byte(s, 5);
+    if same {
+        return before.flags + weak;
+    }
+    weak
 }
 
-fn passed(before: Before, s: &[u8]) -> Before
-    requires { ⌜ (16 ≤ length (now s)) × (before .flags ≤ weakLimit) ⌝ }
-    ensures { λ r. ⌜ r ≡ passed before (now (s .entry)) ⌝ }
+fn in_order(flags: u64, s: &[u8]) -> Stress
+    requires { ⌜ 16 ≤ length (now s) ⌝ }
+    ensures { λ r. ⌜ ((before : Before) → flags ≡ flagsBefore before (now (s .entry)) + weakAt (now (s .entry)) → r ≡ Stress.Loss (lossAt (now (s .entry))) (weakAt (now (s .entry))) (passed before (now (s .entry)))) ⌝ }
 {
-    Before {
+    let next = Before {
         day: le16(s, 0),
         scenario: le16(s, 2),
         member: byte(s, 4),
-        flags: flags_before(before, s) + byte(s, 5),
-    }
-}
-
-fn in_order(before: Before, s: &[u8]) -> Stress
-    requires { ⌜ (16 ≤ length (now s)) × (before .flags ≤ weakLimit) ⌝ }
-    ensures { λ r. ⌜ r ≡ Stress.Loss (lossAt (now (s .entry))) (weakAt (now (s .entry))) (passed before (now (s .entry))) ⌝ }
-{
+        flags,
+    };
     Stress::Loss {
         loss: le32(s, 8),
         weak: byte(s, 5),
-        before: passed(before, s),
+        before: next,
     }
 }
 
@@ -116,22 +136,18 @@ pub fn stress(before: Before, s: &[u8]) -> Stress
     requires { ⌜ (16 ≤ length (now s)) × (before .flags ≤ weakLimit) ⌝ }
     ensures { λ r. ⌜ r ≡ stressOf before (now (s .entry)) ⌝ }
 {
-    if outside(s) {
-        return Stress::Outside;
+    if !sound(s) {
+        return fault(s);
     }
-    if missing(s) {
-        return Stress::Missing;
-    }
-    if excessive(s) {
-        return Stress::Excessive;
-    }
-    if !rises(before, s) {
+    let same = same_block(before, s);
+    if !rises(before, same, s) {
         return Stress::NotRising;
     }
-    if sixth_weak(before, s) {
+    let flags = flags_to(before, same, s);
+    if WEAK_LIMIT < flags {
         return Stress::SixthWeak;
     }
-    in_order(before, s)
+    in_order(flags, s)
 }
 
 // Document 01's number of a refusal, 0 for a record in order.

@@ -16,7 +16,7 @@ fn outside(s: &[u8]) -> bool
     requires { ⌜ 16 ≤ length (now s) ⌝ }
     ensures { λ r. ⌜ r ≡ outside (now (s .entry)) ⌝ }
 {
-    beyond(1, MEMBER_LIMIT, byte(s, 0)) | nonzero(s, 1) | nonzero(s, 2) | nonzero(s, 3)
+    beyond(1, MEMBER_LIMIT, le32(s, 0))
 }
 
 fn missing(s: &[u8]) -> bool

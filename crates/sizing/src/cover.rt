@@ -118,7 +118,7 @@ fn opened(block: Block, same: bool) -> Block
 pub fn read(sheet: &[u8]) -> Covered
     ensures { λ r. ⌜ StressRead (now (sheet .entry)) r ⌝ }
 {
-    let count = sheet.len() / 16;
+    let end = sheet.len() / 16 * 16;
     let mut before = Before {
         day: 0,
         scenario: 0,
@@ -127,9 +127,8 @@ pub fn read(sheet: &[u8]) -> Covered
     };
     let mut block = no_block();
     let mut worst = Worst { cover: 0, weak: 0 };
-    let mut i = 0;
-    while i < count {
-        let at = i * 16;
+    let mut at = 0;
+    while at < end {
         let found = stress(before, &sheet[at..]);
         let Stress::Loss {
             loss,
@@ -141,7 +140,7 @@ pub fn read(sheet: &[u8]) -> Covered
             return Covered {
                 refusal: Refusal {
                     number,
-                    position: i + 1,
+                    position: at / 16 + 1,
                 },
                 cover: 0,
                 weak: 0,
@@ -151,7 +150,7 @@ pub fn read(sheet: &[u8]) -> Covered
         worst = ended(worst, block, same);
         block = joined(opened(block, same), loss, weak);
         before = next;
-        i += 1;
+        at += 16;
     }
     let last = worse(worst, block);
     Covered {

@@ -5,9 +5,7 @@ use sheets::Refusal;
 use sheets::members::entry;
 use sheets::members::number_of;
 ghost use mathlib.Core.Path.{_≡_};
-ghost use Prim.Native.Nat.{_≤_};
-ghost use Rattle.lists.specs.Limits.{memberLimit};
-ghost use Rattle.sizing.specs.Requirements.{noColumns, entered};
+ghost use Rattle.sizing.specs.Requirements.{noColumns};
 ghost use Rattle.sizing.specs.Bounds.{SharesRead};
 
 pub struct Reading {
@@ -24,19 +22,6 @@ fn no_columns() -> Columns
         stress: [0u64; 64],
         present: [false; 64],
     }
-}
-
-fn entered(columns: Columns, member: u8, volume: u64, margin: u64, stress: u64) -> Columns
-    requires { ⌜ (1 ≤ member) × (member ≤ memberLimit) ⌝ }
-    ensures { λ r. ⌜ r ≡ entered columns member volume margin stress ⌝ }
-{
-    let at = (member - 1) as usize;
-    let mut next = columns;
-    next.volume[at] = volume;
-    next.margin[at] = margin;
-    next.stress[at] = stress;
-    next.present[at] = true;
-    next
 }
 
 // 4 to 7 record by record, and the columns of a sheet in order.
@@ -66,7 +51,11 @@ pub fn read(sheet: &[u8]) -> Reading
                 columns,
             };
         };
-        columns = entered(columns, member, first, second, third);
+        let place = (member - 1) as usize;
+        columns.volume[place] = first;
+        columns.margin[place] = second;
+        columns.stress[place] = third;
+        columns.present[place] = true;
         last = member;
         i += 1;
     }

@@ -1,21 +1,26 @@
 -- `sheets::losses::rises` meets its contract.
 use borrow.Author.Needs.{needs}
-use Rattle.sheets.specs.Stress.{stressRises}
+use mathlib.Core.Path.{ap, sym, _∙_}
+use lib.Dec.{ltb}
+use Rattle.sheets.proofs.Tests.{rises-within, rises-between}
 use Rattle.sheets.proofs.losses.rises.Statement.{statement}
 use Rattle.sheets.proofs.losses.rises.Tie as tie
-
-le16-requires : tie.Need-le16-requires
-le16-requires c κs = search needs
-
-le16-requires-2 : tie.Need-le16-requires-2
-le16-requires-2 c κs = search needs
 
 byte-requires : tie.Need-byte-requires
 byte-requires c κs = search needs
 
 returns : tie.Need-returns
-unfolding stressRises
-returns c = cc
+returns c =
+    let t = c .before .before in
+    ap (ltb _) (c .before .byte .ensures .0) ∙ rises-within _ _ (sym (t .before .before .pre .1) ∙ t .if1 .taken)
+
+later-block-requires : tie.Need-later-block-requires
+later-block-requires c κs = search needs
+
+returns-2 : tie.Need-returns-2
+returns-2 c =
+    let e = c .before in
+    c .later-block .ensures ∙ rises-between _ _ (sym (e .before .before .pre .1) ∙ e .if1 .left)
 
 pub rises-spec : {M : Type 1} → statement M
-rises-spec = tie.close (tie.spec le16-requires le16-requires-2 byte-requires returns)
+rises-spec = tie.close (tie.spec byte-requires returns later-block-requires returns-2)

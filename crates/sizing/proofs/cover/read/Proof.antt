@@ -1,12 +1,12 @@
 -- `sizing::cover::read` meets its contract. The loop's invariant: what is left to refuse is the whole sheet's, and the pass stands where `Pass` says.
-use Prim.Native.Nat.{ℕ, _+_, _-_, _≤_, _<_, zero-le}
+use Prim.Native.Nat.{ℕ, _+_, _-_, _*_, _/_, _≤_, _<_, zero-le}
 use mathlib.Core.Path.{_≡_, ap, sym, _∙_}
 use mathlib.Core.List.{List}
 use Rattle.lists.proofs.Fill.{rest-of}
 use Rattle.sheets.specs.Bytes.{recordAt}
-use Rattle.sheets.specs.Sheet.{refusal, stressRefusalFrom, stressRefusal}
-use Rattle.sheets.specs.Stress.{stressOf, stressNumber}
-use Rattle.sheets.proofs.Laws.{stress-refuses, stress-loss, record-whole, stress-begins, stress-refused-here, stress-passed-on, stress-ends}
+use Rattle.sheets.specs.Sheet.{recordCount, stressRefusalFrom, stressRefusal}
+use Rattle.sheets.specs.Stress.{stressOf}
+use Rattle.sheets.proofs.Laws.{stress-loss, record-whole, stress-begins, stress-refused-as, stress-passed-on, stress-ends}
 use Rattle.sizing.specs.declared.cover.Worst.{Worst}
 use Rattle.sizing.proofs.Pass.{Pass, slight, opened-slight, pass-bounded, pass-begins, pass-on, pass-ends}
 use native.Mathlib.Omega.{arith}
@@ -15,19 +15,27 @@ use Rattle.sizing.proofs.cover.read.Statement.{statement}
 use Rattle.sizing.proofs.cover.read.Tie as tie
 
 abbrev Inv-loop : tie.InvT-loop
-Inv-loop sheet count before₀ block₀ worst₀ i₀ before block worst i =
-    (i ≤ count) × (stressRefusalFrom (count - i) sheet i before ≡ stressRefusal sheet) × Pass sheet count i before block worst
+Inv-loop sheet end before₀ block₀ worst₀ at₀ before block worst at =
+    (at ≤ end) × (at / 16 * 16 ≡ at)
+    × (stressRefusalFrom (recordCount sheet - at / 16) sheet (at / 16) before ≡ stressRefusal sheet)
+    × Pass sheet (recordCount sheet) (at / 16) before block worst
 
 abbrev μ-loop : tie.MeasureT-loop
-μ-loop sheet count before₀ block₀ worst₀ i₀ before block worst i = count - i
+μ-loop sheet end before₀ block₀ worst₀ at₀ before block worst at = end - at
 
 -- the sheet, and the record that was read
 abbrev sheet-of : tie.In-loop Inv-loop μ-loop → List ℕ
 sheet-of c = c .before .before .before .before .args .sheet .now
 
+more : (c : tie.In-loop Inv-loop μ-loop) → c .before .loop .at / 16 < recordCount (sheet-of c)
+more c = omega (arith, c .loop-test .taken)
+
 found : (c : tie.After-stress Inv-loop μ-loop)
-    → stressOf (c .before .before .before .loop .before) (recordAt (sheet-of (c .before .before)) (c .before .before .before .loop .i)) ≡ c .stress .result
-found c = sym (rw rest-of at (c .stress .ensures))
+    → stressOf (c .before .before .before .loop .before) (recordAt (sheet-of (c .before .before)) (c .before .before .before .loop .at / 16)) ≡ c .stress .result
+found c = rw (c .before .before .before .loop .inv .1) (sym (rw rest-of at (c .stress .ensures)))
+
+mul-end : tie.Need-mul-end Inv-loop μ-loop
+mul-end c = search needs
 
 no-block-requires : tie.Need-no-block-requires Inv-loop μ-loop
 no-block-requires c κs = search needs
@@ -35,10 +43,7 @@ no-block-requires c κs = search needs
 loop-holds : tie.Need-loop-holds Inv-loop μ-loop
 loop-holds c =
     let sheet = c .before .before .args .sheet .now in
-    (omega arith, stress-begins sheet, pass-begins sheet _ (c .no-block .ensures))
-
-mul-at : tie.Need-mul-at Inv-loop μ-loop
-mul-at c = search needs
+    (omega arith, omega arith, stress-begins sheet, pass-begins sheet _ (c .no-block .ensures))
 
 sub-stress : tie.Need-sub-stress Inv-loop μ-loop
 sub-stress c = search needs
@@ -50,7 +55,9 @@ part-stress-end : tie.Need-part-stress-end Inv-loop μ-loop
 part-stress-end c = search needs
 
 stress-requires : tie.Need-stress-requires Inv-loop μ-loop
-stress-requires c κs = (rw rest-of (record-whole _ _ (c .before .loop-test .taken)), c .before .before .loop .inv .2 .flags-most)
+stress-requires c κs =
+    let l = c .before .before .loop in
+    (rw (rest-of, ← l .inv .1) (record-whole _ _ (more (c .before))), l .inv .3 .flags-most)
 
 enum-known-found : tie.Need-enum-known-found Inv-loop μ-loop
 enum-known-found c = search needs
@@ -58,20 +65,16 @@ enum-known-found c = search needs
 stress-number-requires : tie.Need-stress-number-requires Inv-loop μ-loop
 stress-number-requires c κs = search needs
 
-add-t21 : tie.Need-add-t21 Inv-loop μ-loop
-add-t21 c = search needs
+add-t22 : tie.Need-add-t22 Inv-loop μ-loop
+add-t22 c = search needs
 
 returns : tie.Need-returns Inv-loop μ-loop
 returns c =
     let e = c .before .before in
     let l = e .before .before .before .loop in
-    let n : c .stress-number .result ≡ stressNumber (e .stress .result) = c .stress-number .ensures in
-    let p : 0 < stressNumber (e .stress .result) = stress-refuses (e .stress .result) (c .before .match .keys2) in
+    let r = stress-refused-as _ _ (l .at / 16) (l .before) (more (e .before .before)) _ _ (found e) (c .before .match .keys2) (c .stress-number .ensures) in
     record {
-      refused =
-          ap (λ (k : ℕ). refusal k (l .i + 1)) n
-          ∙ sym (stress-refused-here _ _ (l .i) (l .before) (e .before .before .loop-test .taken) _ (found e) p)
-          ∙ l .inv .1;
+      refused = r .1 ∙ l .inv .2;
       cover-is = λ z. absurd (omega arith);
       weak-is = λ z. absurd (omega arith);
       cover-most = zero-le;
@@ -82,7 +85,7 @@ same-block-requires : tie.Need-same-block-requires Inv-loop μ-loop
 same-block-requires c κs = search needs
 
 ended-requires : tie.Need-ended-requires Inv-loop μ-loop
-ended-requires c κs = slight (c .before .before .before .before .before .before .before .loop .inv .2)
+ended-requires c κs = slight (c .before .before .before .before .before .before .before .loop .inv .3)
 
 opened-requires : tie.Need-opened-requires Inv-loop μ-loop
 opened-requires c κs = search needs
@@ -91,12 +94,12 @@ joined-requires : tie.Need-joined-requires Inv-loop μ-loop
 joined-requires c κs =
     let e = c .before .before .before .before .before .before in
     let q = found e ∙ c .before .before .before .before .found .given .1 in (
-      opened-slight (c .before .before .same-block .result) _ _ (c .opened .ensures) (slight (e .before .before .before .loop .inv .2)),
+      opened-slight (c .before .before .same-block .result) _ _ (c .opened .ensures) (slight (e .before .before .before .loop .inv .3)),
       stress-loss _ _ _ _ _ q .loss-most,
     )
 
-add-i : tie.Need-add-i Inv-loop μ-loop
-add-i c = search needs
+add-at : tie.Need-add-at Inv-loop μ-loop
+add-at c = search needs
 
 loop-less : tie.Need-loop-less Inv-loop μ-loop
 loop-less c = search needs
@@ -107,26 +110,30 @@ loop-again c =
     let e = b .before .before .before .before in
     let t = e .before .before in
     let l = t .before .loop in
+    let i = l .at / 16 in
+    let next : (l .at + 16) / 16 ≡ i + 1 = omega arith in
     let q = found e ∙ b .before .before .found .given .1 in (
-      omega arith,
-      sym (stress-passed-on _ _ (l .i) (l .before) (t .loop-test .taken) _ _ _ q) ∙ l .inv .1,
-      pass-on _ _ (l .i) (l .before) _ (l .block) _ _ (l .worst) _ _ _ (l .inv .2) (t .loop-test .taken) (stress-loss _ _ _ _ _ q)
+      omega (arith, t .loop-test .taken, l .inv .1),
+      omega (arith, l .inv .1),
+      rw next (sym (stress-passed-on _ _ i (l .before) (more t) _ _ _ q) ∙ l .inv .2),
+      rw next
+          (pass-on _ _ i (l .before) _ (l .block) _ _ (l .worst) _ _ _ (l .inv .3) (more t) (stress-loss _ _ _ _ _ q)
           (rw (b .same-block .ensures) at (c .before .before .ended .ensures))
           (rw (b .same-block .ensures) at (c .before .opened .ensures))
-          (c .joined .ensures),
+          (c .joined .ensures)),
     )
 
 worse-requires : tie.Need-worse-requires Inv-loop μ-loop
-worse-requires c κs = slight (c .before .loop .inv .2)
+worse-requires c κs = slight (c .before .loop .inv .3)
 
 returns-2 : tie.Need-returns-2 Inv-loop μ-loop
 returns-2 c =
     let l = c .before .before .loop in
-    let h = c .before .loop-test .left in
-    let w = pass-ends _ _ (l .i) (l .before) (l .block) (l .worst) _ (l .inv .2) h (c .worse .ensures) in
-    let b = pass-bounded (l .inv .2) (c .worse .ensures) in
+    let h : recordCount (c .before .before .before .before .before .args .sheet .now) ≤ l .at / 16 = omega (arith, c .before .loop-test .left) in
+    let w = pass-ends _ _ (l .at / 16) (l .before) (l .block) (l .worst) _ (l .inv .3) h (c .worse .ensures) in
+    let b = pass-bounded (l .inv .3) (c .worse .ensures) in
     record {
-      refused = sym (stress-ends _ _ (l .i) (l .before) h) ∙ l .inv .1;
+      refused = sym (stress-ends _ _ (l .at / 16) (l .before) h) ∙ l .inv .2;
       cover-is = λ z. ap (λ (v : Worst). v .cover) w;
       weak-is = λ z. ap (λ (v : Worst). v .weak) w;
       cover-most = b .cover-most;
@@ -139,22 +146,22 @@ read-spec =
     (tie.spec
     Inv-loop
     μ-loop
+    mul-end
     no-block-requires
     loop-holds
-    mul-at
     sub-stress
     part-stress-start
     part-stress-end
     stress-requires
     enum-known-found
     stress-number-requires
-    add-t21
+    add-t22
     returns
     same-block-requires
     ended-requires
     opened-requires
     joined-requires
-    add-i
+    add-at
     loop-less
     loop-again
     worse-requires

@@ -1,19 +1,18 @@
 -- `sizing::shares::read` meets its contract. The loop's invariant: what is left to refuse and to enter, from here, is the whole sheet's.
-use mathlib.Core.Path.{ap, sym, _∙_}
+use Prim.Native.Nat.{ℕ, _-_, _≤_}
+use mathlib.Core.Path.{_≡_, sym, _∙_}
 use mathlib.Core.List.{List}
-use Rattle.lists.proofs.Fill.{rest-of}
-use Rattle.sheets.specs.Bytes.{recordAt}
-use Rattle.sheets.specs.Members.{entryOf, numberOf}
-use Rattle.sheets.specs.Sheet.{refusal}
-use Rattle.sheets.proofs.Laws.{member-refuses, entry-figures, record-whole, member-begins, member-refused-here, member-passed-on, member-ends}
-use Rattle.sizing.proofs.Reading.{columns-begin, columns-on, columns-end, moderate-none, moderate-on}
-use Prim.Native.Nat.{ℕ, _+_, _-_, _≤_, _<_}
-use mathlib.Core.Path.{_≡_}
-use Rattle.sheets.specs.Sheet.{memberRefusalFrom, memberRefusal}
-use Rattle.sizing.specs.Requirements.{columnsFrom, columnsOf}
-use Rattle.sizing.specs.Bounds.{Moderate}
 use native.Mathlib.Omega.{arith}
 use borrow.Author.Needs.{needs}
+use Rattle.lists.specs.Limits.{memberLimit}
+use Rattle.lists.proofs.Fill.{rest-of}
+use Rattle.sheets.specs.Bytes.{recordAt}
+use Rattle.sheets.specs.Members.{entryOf}
+use Rattle.sheets.specs.Sheet.{memberRefusalFrom, memberRefusal}
+use Rattle.sheets.proofs.Laws.{InOrder, entry-figures, record-whole, member-begins, member-refused-as, member-passed-on, member-ends}
+use Rattle.sizing.specs.Requirements.{columnsFrom, columnsOf}
+use Rattle.sizing.specs.Bounds.{Moderate}
+use Rattle.sizing.proofs.Reading.{columns-begin, columns-on, columns-end, moderate-none, moderate-on}
 use Rattle.sizing.proofs.shares.read.Statement.{statement}
 use Rattle.sizing.proofs.shares.read.Tie as tie
 
@@ -32,6 +31,18 @@ sheet-of c = c .before .before .before .before .args .sheet .now
 found : (c : tie.After-entry Inv-loop μ-loop)
     → entryOf 0 (c .before .before .before .loop .last) (recordAt (sheet-of (c .before .before)) (c .before .before .before .loop .i)) ≡ c .entry .result
 found c = sym (rw rest-of at (c .entry .ensures))
+
+-- its figures, of a record in order
+module _ (c : tie.After-known-told Inv-loop μ-loop) where
+  abbrev figures : tie.After-found Inv-loop μ-loop
+  figures = c .before
+
+  order : let l = figures .before .before .before .before .before .loop in let g = figures .found .given .0 in
+      InOrder 0 (l .last) (recordAt (sheet-of (figures .before .before .before .before)) (l .i)) (g .0) (g .1 .0) (g .1 .1 .0) (g .1 .1 .1 .0)
+  order = entry-figures _ _ _ _ _ _ _ (found (figures .before .before) ∙ figures .found .given .1)
+
+  member-is : let m = figures .found .given .0 .0 in (1 ≤ m) × (m ≤ memberLimit)
+  member-is = (order .member-least, order .member-most)
 
 no-columns-requires : tie.Need-no-columns-requires Inv-loop μ-loop
 no-columns-requires c κs = search needs
@@ -67,29 +78,46 @@ enum-known-found c = search needs
 number-of-requires : tie.Need-number-of-requires Inv-loop μ-loop
 number-of-requires c κs = search needs
 
-add-t19 : tie.Need-add-t19 Inv-loop μ-loop
-add-t19 c = search needs
+add-t21 : tie.Need-add-t21 Inv-loop μ-loop
+add-t21 c = search needs
 
 returns : tie.Need-returns Inv-loop μ-loop
 returns c =
     let e = c .before .before in
     let l = e .before .before .before .loop in
-    let n : c .number-of .result ≡ numberOf (e .entry .result) = c .number-of .ensures in
-    let p : 0 < numberOf (e .entry .result) = member-refuses (e .entry .result) (c .before .match .keys2) in
+    let r = member-refused-as 0 _ _ (l .i) (l .last) (e .before .before .loop-test .taken) _ _ (found e) (c .before .match .keys2) (c .number-of .ensures) in
     record {
-      refused =
-          ap (λ (k : ℕ). refusal k (l .i + 1)) n
-          ∙ sym (member-refused-here 0 _ _ (l .i) (l .last) (e .before .before .loop-test .taken) _ (found e) p)
-          ∙ l .inv .1;
+      refused = r .1 ∙ l .inv .1;
       columns-are = λ z. absurd (omega arith);
       moderate = l .inv .3;
     }
 
-entered-requires : tie.Need-entered-requires Inv-loop μ-loop
-entered-requires c κs =
-    let q = found (c .before .before .before) ∙ c .before .found .given .1 in
-    let o = entry-figures _ _ _ _ _ _ _ q in
-    (o .member-least, o .member-most)
+sub-place : tie.Need-sub-place Inv-loop μ-loop
+sub-place c = omega (arith, member-is c)
+
+cast-place : tie.Need-cast-place Inv-loop μ-loop
+cast-place c = omega (arith, member-is c)
+
+mul-columns : tie.Need-mul-columns Inv-loop μ-loop
+mul-columns c = omega (arith, member-is c)
+
+element-write-columns : tie.Need-element-write-columns Inv-loop μ-loop
+element-write-columns c = omega (arith, member-is c)
+
+mul-columns-2 : tie.Need-mul-columns-2 Inv-loop μ-loop
+mul-columns-2 c = omega (arith, member-is c)
+
+element-write-columns-2 : tie.Need-element-write-columns-2 Inv-loop μ-loop
+element-write-columns-2 c = omega (arith, member-is c)
+
+mul-columns-3 : tie.Need-mul-columns-3 Inv-loop μ-loop
+mul-columns-3 c = omega (arith, member-is c)
+
+element-write-columns-3 : tie.Need-element-write-columns-3 Inv-loop μ-loop
+element-write-columns-3 c = omega (arith, member-is c)
+
+element-write-columns-4 : tie.Need-element-write-columns-4 Inv-loop μ-loop
+element-write-columns-4 c = omega (arith, member-is c)
 
 add-i : tie.Need-add-i Inv-loop μ-loop
 add-i c = search needs
@@ -99,16 +127,16 @@ loop-less c = search needs
 
 loop-again : tie.Need-loop-again Inv-loop μ-loop
 loop-again c =
-    let e = c .before .before .before .before in
+    let f = figures c in
+    let e = f .before .before in
     let t = e .before .before in
     let l = t .before .loop in
-    let q = found e ∙ c .before .before .found .given .1 in
-    let o = entry-figures _ _ _ _ _ _ _ q in
-    let n = c .entered .ensures in (
+    let q = found e ∙ f .found .given .1 in
+    let o = order c in (
       omega arith,
       sym (member-passed-on 0 _ _ (l .i) (l .last) (t .loop-test .taken) _ _ _ _ q) ∙ l .inv .1,
-      rw n (sym (columns-on _ _ (l .i) (l .last) (l .columns) (t .loop-test .taken) _ _ _ _ q) ∙ l .inv .2),
-      rw n (moderate-on (l .inv .3) _ _ _ _ (o .first-most) (o .second-most) (o .third-most)),
+      sym (columns-on _ _ (l .i) (l .last) (l .columns) (t .loop-test .taken) _ _ _ _ q) ∙ l .inv .2,
+      moderate-on (l .inv .3) _ _ _ _ (o .first-most) (o .second-most) (o .third-most),
     )
 
 returns-2 : tie.Need-returns-2 Inv-loop μ-loop
@@ -136,9 +164,17 @@ read-spec =
     entry-requires
     enum-known-found
     number-of-requires
-    add-t19
+    add-t21
     returns
-    entered-requires
+    sub-place
+    cast-place
+    mul-columns
+    element-write-columns
+    mul-columns-2
+    element-write-columns-2
+    mul-columns-3
+    element-write-columns-3
+    element-write-columns-4
     add-i
     loop-less
     loop-again

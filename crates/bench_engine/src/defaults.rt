@@ -8,7 +8,7 @@ use waterfall::Register;
 use waterfall::Reply;
 use waterfall::declaration::declare;
 use waterfall::sheet::open;
-ghost use Prim.Native.Nat.{ℕ, _≤_};
+ghost use Prim.Native.Nat.{_≤_};
 ghost use Rattle.waterfall.specs.Register.{GivenBack};
 
 const OWN: u64 = 1_000_003;

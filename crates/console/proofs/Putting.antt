@@ -1,11 +1,13 @@
 -- Laws of texts put one behind the other.
-use Prim.Native.Nat.{ℕ, zero, suc, _+_, _≤_}
+use Prim.Native.Nat.{ℕ, suc, _+_, _≤_}
 use mathlib.Core.Path.{_≡_, refl, sym, ap, _∙_}
-use mathlib.Core.List.{List, [], _∷_, _++_}
+use mathlib.Core.List.{List, [], _++_}
 use native.Mathlib.Numerals.{add-one}
 use native.Mathlib.Omega.{arith}
 use lib.ListN.{length, length-append}
 use Rattle.text.specs.Buffer.{written}
+use Rattle.console.specs.declared.answers.Rows.{Rows}
+use Rattle.console.specs.Texts.{chargesText, requirementsText, slipLength, rowText, rowsText}
 use Rattle.text.proofs.Lists.{written-then, written-none}
 
 -- a text put at a place: the place after it, and the buffer
@@ -37,3 +39,19 @@ put-behind out s p = (omega (arith, p .0), p .1)
 pub put-on : {o₁ o₂ : List ℕ} {r₁ r₂ : ℕ} (f : ℕ → List ℕ) (out : List ℕ) (at i : ℕ) (g : List ℕ) → f (suc i) ≡ f i ++ g → Put out at (f i) r₁ o₁ → Put o₁ r₁ g r₂ o₂ → r₁ ≤ length out → Put out at (f (i + 1)) r₂ o₂
 put-on f out at i g e p q h =
     put-as out at (f i ++ g) (f (i + 1)) (sym e ∙ ap f (sym (add-one i))) (put-then out at (f i) g p q h)
+
+-- a slip has a number for each member
+pub slip-members : (rows : Rows) → 64 ≤ slipLength rows
+slip-members Rows.Charges = omega arith
+slip-members Rows.Requirements = omega arith
+
+-- rows of members: none, and one more
+pub no-rows : (rows : Rows) (slip out : List ℕ) (at : ℕ) → Put out at (rowsText rows slip 0) at out
+unfolding chargesText requirementsText
+no-rows Rows.Charges slip out at = put-none out at
+no-rows Rows.Requirements slip out at = put-none out at
+
+pub one-row : (rows : Rows) (slip : List ℕ) (k : ℕ) → rowsText rows slip (suc k) ≡ rowsText rows slip k ++ rowText rows slip k
+unfolding chargesText requirementsText
+one-row Rows.Charges slip k = refl
+one-row Rows.Requirements slip k = refl

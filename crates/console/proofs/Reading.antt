@@ -1,12 +1,10 @@
 -- Laws of a line read word by word.
-use Prim.Native.Nat.{ℕ, _+_, _-_, _≤_, _<_}
+use Prim.Native.Nat.{ℕ, _+_, _-_, _≤_}
 use mathlib.Core.Path.{_≡_, refl, sym, ap, _∙_}
-use mathlib.Core.Bool.{Bool, true, false, _&&_}
+use mathlib.Core.Bool.{true, false}
 use mathlib.Core.List.{List, [], _∷_, _++_}
 use native.Mathlib.Omega.{arith}
-use borrow.Author.Tests.{eq-eqb, ne-eqb}
-use lib.Dec.{eqb}
-use lib.ListN.{length, getD, set, drop, replicate, drop-of-length-le}
+use lib.ListN.{length, drop, replicate, drop-of-length-le}
 use Rattle.lists.specs.Checks.{check}
 use Rattle.lists.proofs.Checks.{check-true, check-false}
 use Rattle.text.specs.Numbers.{readOf}
@@ -15,9 +13,9 @@ use Rattle.text.specs.Ranks.{RankFits, rankOf}
 use Rattle.text.specs.declared.numbers.Number.{Number}
 use Rattle.text.specs.declared.ranks.Rank.{Rank}
 use Rattle.drill.specs.declared.DrillCall.{DrillCall}
-use Rattle.console.specs.Words.{firstOf, restOf, noWord, wordsOf}
+use Rattle.console.specs.Words.{firstOf, restOf, noWord}
 use Rattle.console.specs.declared.lines.Line.{Line}
-use Rattle.console.specs.Lines.{missing, unnamed, isGood, marked, given, allGood, ranksIn, callOf, numbersOf, defaultLine, defaultRanks, pairLine, alone, otherLine, defaultWord, lineIn, ranksFor}
+use Rattle.console.specs.Lines.{missing, unnamed, isGood, marked, given, allGood, ranksIn, callOf, defaultLine, defaultRanks, pairLine, otherLine, defaultWord, lineIn, ranksFor}
 
 pub never : {X : Type 0} → false ≡ true → X
 never h = let z : _≡_ {A = ℕ} 0 1 = cc in absurd (omega arith)

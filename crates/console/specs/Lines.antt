@@ -1,6 +1,5 @@
 -- run_drill: what a line of standard input says.
 use Prim.Native.Nat.{ℕ, _-_}
-use mathlib.Core.Path.{_≡_, refl}
 use mathlib.Core.Bool.{Bool, true, false, _&&_}
 use mathlib.Core.List.{List, [], _∷_}
 use lib.Dec.{eqb}
@@ -14,6 +13,7 @@ use Rattle.text.specs.declared.ranks.Rank.{Rank}
 use Rattle.drill.specs.declared.DrillCall.{DrillCall}
 use Rattle.console.specs.Words.{firstOf, restOf, noWord, wordsOf}
 use Rattle.console.specs.declared.lines.Line.{Line}
+use Rattle.console.specs.declared.lines.Pair.{Pair}
 
 -- `default`, `payment`, `replenishment`, `close`, `register`
 abbrev pub defaultWord : List ℕ
@@ -63,6 +63,12 @@ allGood named (w ∷ ws) = isGood named (rankOf w) && allGood (marked named (ran
 abbrev pub ranksIn : List ℕ → List (List ℕ) → List ℕ
 ranksIn ranks [] = ranks
 ranksIn ranks (w ∷ ws) = ranksIn (given ranks (rankOf w)) ws
+
+-- a call with two numbers, by its name
+abbrev pub makeOf : Pair → ℕ → ℕ → DrillCall
+makeOf Pair.Default = DrillCall.Default
+makeOf Pair.Payment = DrillCall.Payment
+makeOf Pair.Replenishment = DrillCall.Replenishment
 
 -- unreadable: "something that is no number"
 abbrev pub callOf : (ℕ → ℕ → DrillCall) → Number → Number → Line

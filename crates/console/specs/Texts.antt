@@ -13,6 +13,7 @@ use Rattle.waterfall.specs.declared.Register.{Register}
 use Rattle.waterfall.specs.declared.Reply.{Reply}
 use Rattle.waterfall.specs.declared.view.MemberView.{MemberView}
 use Rattle.sizing.specs.declared.Sized.{Sized}
+use Rattle.console.specs.declared.answers.Rows.{Rows}
 
 -- '\\n'
 abbrev pub newline : List ℕ
@@ -232,6 +233,19 @@ requirementText member requirement =
 unfoldable pub requirementsText : List ℕ → ℕ → List ℕ
 requirementsText slip zero = []
 requirementsText slip (suc k) = requirementsText slip k ++ requirementText (k + 1) (getD slip k 0)
+
+-- both kinds of rows: how long a slip they are read from is, the row of the member at a place, and those of the first k members
+abbrev pub slipLength : Rows → ℕ
+slipLength Rows.Charges = 128
+slipLength Rows.Requirements = 64
+
+abbrev pub rowText : Rows → List ℕ → ℕ → List ℕ
+rowText Rows.Charges slip k = chargeText (k + 1) (getD slip k 0) (getD slip (k + 64) 0)
+rowText Rows.Requirements slip k = requirementText (k + 1) (getD slip k 0)
+
+abbrev pub rowsText : Rows → List ℕ → ℕ → List ℕ
+rowsText Rows.Charges = chargesText
+rowsText Rows.Requirements = requirementsText
 
 -- what is printed of a sizing, with the slip that it left
 unfoldable pub sizedText : Sized → List ℕ → List ℕ

@@ -8,10 +8,16 @@ use text::put_text;
 use waterfall::Allocation;
 use waterfall::Reply;
 ghost use mathlib.Core.Path.{_≡_};
-ghost use Prim.Native.Nat.{_+_, _*_, _≤_};
+ghost use Prim.Native.Nat.{_+_, _*_, _≤_, _<_};
 ghost use lib.ListN.{length};
 ghost use Rattle.text.specs.Buffer.{written};
-ghost use Rattle.console.specs.Texts.{openingText, unreadableText, allocationText, chargeText, chargesText, replyText, figuresText, requirementText, requirementsText, sizedText};
+ghost use Rattle.console.specs.Texts.{openingText, unreadableText, allocationText, chargeText, requirementText, slipLength, rowText, rowsText, replyText, figuresText, sizedText};
+
+// What a slip's numbers are: charges and calls, or requirements.
+enum Rows {
+    Charges,
+    Requirements,
+}
 
 fn wide(x: u8) -> u64
     ensures { λ r. ⌜ r ≡ x ⌝ }
@@ -72,18 +78,46 @@ fn put_charge(out: &mut [u8], at: usize, member: u64, charge: u64, call: u64) ->
     put_text(out, b, b"\n")
 }
 
-// The members with a charge or a call.
-fn put_charges(out: &mut [u8], from: usize, slip: &[u64]) -> usize
-    requires { ⌜ (from + 64 * 87 ≤ length (now out)) × (128 ≤ length (now slip)) ⌝ }
-    ensures { λ r. ⌜ (r ≡ from + length (chargesText (now (slip .entry)) 64)) × (now (out .exit) ≡ written (now (out .entry)) from (chargesText (now (slip .entry)) 64)) ⌝ }
+// A member's requirement, where it has one.
+fn put_requirement(out: &mut [u8], at: usize, member: u64, requirement: u64) -> usize
+    requires { ⌜ at + 63 ≤ length (now out) ⌝ }
+    ensures { λ r. ⌜ (r ≡ at + length (requirementText member requirement)) × (now (out .exit) ≡ written (now (out .entry)) at (requirementText member requirement)) ⌝ }
+    ensures { λ r. ⌜ r ≤ at + 63 ⌝ }
+{
+    if requirement == 0 {
+        return at;
+    }
+    let end = put_two(out, at, b"  member ", member, b" requirement ", requirement);
+    put_text(out, end, b"\n")
+}
+
+// What a slip says of the member at a place.
+fn put_row(out: &mut [u8], at: usize, rows: Rows, slip: &[u64], i: usize) -> usize
+    requires { ⌜ (i < 64) × (at + 87 ≤ length (now out)) × (slipLength rows ≤ length (now slip)) ⌝ }
+    ensures { λ r. ⌜ (r ≡ at + length (rowText rows (now (slip .entry)) i)) × (now (out .exit) ≡ written (now (out .entry)) at (rowText rows (now (slip .entry)) i)) ⌝ }
+    ensures { λ r. ⌜ r ≤ at + 87 ⌝ }
+{
+    let member = number(i + 1);
+    let figure = slip[i];
+    match rows {
+        Rows::Charges => {
+            let call = slip[i + 64];
+            put_charge(out, at, member, figure, call)
+        }
+        Rows::Requirements => put_requirement(out, at, member, figure),
+    }
+}
+
+// What a slip says of each member.
+fn put_rows(out: &mut [u8], from: usize, rows: Rows, slip: &[u64]) -> usize
+    requires { ⌜ (from + 64 * 87 ≤ length (now out)) × (slipLength rows ≤ length (now slip)) ⌝ }
+    ensures { λ r. ⌜ (r ≡ from + length (rowsText rows (now (slip .entry)) 64)) × (now (out .exit) ≡ written (now (out .entry)) from (rowsText rows (now (slip .entry)) 64)) ⌝ }
     ensures { λ r. ⌜ r ≤ from + 64 * 87 ⌝ }
 {
     let mut at = from;
     let mut i: usize = 0;
     while i < 64 {
-        let charge = slip[i];
-        let call = slip[i + 64];
-        at = put_charge(out, at, number(i + 1), charge, call);
+        at = put_row(out, at, rows, slip, i);
         i += 1;
     }
     at
@@ -103,7 +137,7 @@ pub fn put_reply(out: &mut [u8], reply: Reply, slip: &[u64]) -> usize
         Reply::Accepted => put_text(out, 0, b"accepted\n"),
         Reply::Allocated(a) => {
             let at = put_allocation(out, a);
-            put_charges(out, at, slip)
+            put_rows(out, at, Rows::Charges, slip)
         }
     }
 }
@@ -120,35 +154,6 @@ fn put_figures(out: &mut [u8], s: Sized) -> usize
     put_text(out, d, b"\n")
 }
 
-// A member's requirement, where it has one.
-fn put_requirement(out: &mut [u8], at: usize, member: u64, requirement: u64) -> usize
-    requires { ⌜ at + 63 ≤ length (now out) ⌝ }
-    ensures { λ r. ⌜ (r ≡ at + length (requirementText member requirement)) × (now (out .exit) ≡ written (now (out .entry)) at (requirementText member requirement)) ⌝ }
-    ensures { λ r. ⌜ r ≤ at + 63 ⌝ }
-{
-    if requirement == 0 {
-        return at;
-    }
-    let end = put_two(out, at, b"  member ", member, b" requirement ", requirement);
-    put_text(out, end, b"\n")
-}
-
-// The members that have a requirement.
-fn put_requirements(out: &mut [u8], from: usize, slip: &[u64]) -> usize
-    requires { ⌜ (from + 64 * 63 ≤ length (now out)) × (64 ≤ length (now slip)) ⌝ }
-    ensures { λ r. ⌜ (r ≡ from + length (requirementsText (now (slip .entry)) 64)) × (now (out .exit) ≡ written (now (out .entry)) from (requirementsText (now (slip .entry)) 64)) ⌝ }
-    ensures { λ r. ⌜ r ≤ from + 64 * 63 ⌝ }
-{
-    let mut at = from;
-    let mut i: usize = 0;
-    while i < 64 {
-        let requirement = slip[i];
-        at = put_requirement(out, at, number(i + 1), requirement);
-        i += 1;
-    }
-    at
-}
-
 // A sizing's answer, with the slip that the sizing left.
 pub fn put_sized(out: &mut [u8], s: Sized, slip: &[u64]) -> usize
     requires { ⌜ (8192 ≤ length (now out)) × (64 ≤ length (now slip)) ⌝ }
@@ -160,5 +165,5 @@ pub fn put_sized(out: &mut [u8], s: Sized, slip: &[u64]) -> usize
         return put_refusal(out, 0, wide(refusal.number), number(refusal.position));
     }
     let at = put_figures(out, s);
-    put_requirements(out, at, slip)
+    put_rows(out, at, Rows::Requirements, slip)
 }

@@ -9,18 +9,24 @@ use text::read_number;
 use text::read_rank;
 ghost use mathlib.Core.Path.{_≡_};
 ghost use mathlib.Core.Bool.{true};
-ghost use Prim.Native.Nat.{_≤_};
 ghost use lib.ListN.{length, drop};
 ghost use Rattle.text.specs.Ranks.{rankOf};
 ghost use Rattle.text.specs.Numbers.{readOf};
 ghost use Rattle.console.specs.Words.{wordsOf, noWord, firstOf, restOf};
-ghost use Rattle.console.specs.Lines.{missing, isGood, marked, given, allGood, ranksIn, callOf, defaultLine, defaultRanks, pairLine, alone, otherLine, lineOf, ranksOf};
+ghost use Rattle.console.specs.Lines.{missing, isGood, marked, given, allGood, ranksIn, makeOf, callOf, defaultLine, defaultRanks, pairLine, alone, otherLine, lineOf, ranksOf};
 
 pub enum Line {
     Blank,
     Unreadable,
     Register,
     Call(DrillCall),
+}
+
+// A call with two numbers.
+enum Pair {
+    Default,
+    Payment,
+    Replenishment,
 }
 
 // Two words as numbers, and the place behind them. A word that is not there is no number.
@@ -112,46 +118,32 @@ fn ends(line: &[u8], from: usize) -> bool
     start == end
 }
 
-fn default_of(member: Number, loss: Number) -> Line
-    ensures { λ r. ⌜ r ≡ callOf DrillCall.Default member loss ⌝ }
+fn made(kind: Pair, m: u64, n: u64) -> DrillCall
+    ensures { λ r. ⌜ r ≡ makeOf kind m n ⌝ }
 {
-    let Number::Value(m) = member else {
-        return Line::Unreadable;
-    };
-    let Number::Value(l) = loss else {
-        return Line::Unreadable;
-    };
-    Line::Call(DrillCall::Default { member: m, loss: l })
+    match kind {
+        Pair::Default => DrillCall::Default { member: m, loss: n },
+        Pair::Payment => DrillCall::Payment {
+            member: m,
+            amount: n,
+        },
+        Pair::Replenishment => DrillCall::Replenishment {
+            member: m,
+            amount: n,
+        },
+    }
 }
 
-fn payment_of(member: Number, amount: Number) -> Line
-    ensures { λ r. ⌜ r ≡ callOf DrillCall.Payment member amount ⌝ }
+fn call_of(kind: Pair, first: Number, second: Number) -> Line
+    ensures { λ r. ⌜ r ≡ callOf (makeOf kind) first second ⌝ }
 {
-    let Number::Value(m) = member else {
+    let Number::Value(m) = first else {
         return Line::Unreadable;
     };
-    let Number::Value(a) = amount else {
+    let Number::Value(n) = second else {
         return Line::Unreadable;
     };
-    Line::Call(DrillCall::Payment {
-        member: m,
-        amount: a,
-    })
-}
-
-fn replenishment_of(member: Number, amount: Number) -> Line
-    ensures { λ r. ⌜ r ≡ callOf DrillCall.Replenishment member amount ⌝ }
-{
-    let Number::Value(m) = member else {
-        return Line::Unreadable;
-    };
-    let Number::Value(a) = amount else {
-        return Line::Unreadable;
-    };
-    Line::Call(DrillCall::Replenishment {
-        member: m,
-        amount: a,
-    })
+    Line::Call(made(kind, m, n))
 }
 
 // What follows `default`.
@@ -169,11 +161,12 @@ fn default_line(line: &[u8], from: usize, ranks: &mut [u8]) -> Line
         clear(ranks);
         return Line::Unreadable;
     }
-    default_of(first, second)
+    call_of(Pair::Default, first, second)
 }
 
-fn payment_line(line: &[u8], from: usize) -> Line
-    ensures { λ r. ⌜ r ≡ pairLine DrillCall.Payment (wordsOf (drop from (now (line .entry)))) ⌝ }
+// What follows `payment` or `replenishment`.
+fn pair_line(kind: Pair, line: &[u8], from: usize) -> Line
+    ensures { λ r. ⌜ r ≡ pairLine (makeOf kind) (wordsOf (drop from (now (line .entry)))) ⌝ }
 {
     let two = two_numbers(line, from);
     let first = two.first;
@@ -182,38 +175,17 @@ fn payment_line(line: &[u8], from: usize) -> Line
     if !ends(line, end) {
         return Line::Unreadable;
     }
-    payment_of(first, second)
+    call_of(kind, first, second)
 }
 
-fn replenishment_line(line: &[u8], from: usize) -> Line
-    ensures { λ r. ⌜ r ≡ pairLine DrillCall.Replenishment (wordsOf (drop from (now (line .entry)))) ⌝ }
-{
-    let two = two_numbers(line, from);
-    let first = two.first;
-    let second = two.second;
-    let end = two.end;
-    if !ends(line, end) {
-        return Line::Unreadable;
-    }
-    replenishment_of(first, second)
-}
-
-fn close_line(line: &[u8], from: usize) -> Line
-    ensures { λ r. ⌜ r ≡ alone (Line.Call DrillCall.Close) (wordsOf (drop from (now (line .entry)))) ⌝ }
+// A line that says the same thing as its first word.
+fn alone(says: Line, line: &[u8], from: usize) -> Line
+    ensures { λ r. ⌜ r ≡ alone says (wordsOf (drop from (now (line .entry)))) ⌝ }
 {
     if !ends(line, from) {
         return Line::Unreadable;
     }
-    Line::Call(DrillCall::Close)
-}
-
-fn register_line(line: &[u8], from: usize) -> Line
-    ensures { λ r. ⌜ r ≡ alone Line.Register (wordsOf (drop from (now (line .entry)))) ⌝ }
-{
-    if !ends(line, from) {
-        return Line::Unreadable;
-    }
-    Line::Register
+    says
 }
 
 // A line that begins with a word other than `default`.
@@ -221,16 +193,16 @@ fn other_line(line: &[u8], word: &[u8], from: usize) -> Line
     ensures { λ r. ⌜ r ≡ otherLine (now (word .entry)) (wordsOf (drop from (now (line .entry)))) ⌝ }
 {
     if text::same(word, b"payment") {
-        return payment_line(line, from);
+        return pair_line(Pair::Payment, line, from);
     }
     if text::same(word, b"replenishment") {
-        return replenishment_line(line, from);
+        return pair_line(Pair::Replenishment, line, from);
     }
     if text::same(word, b"close") {
-        return close_line(line, from);
+        return alone(Line::Call(DrillCall::Close), line, from);
     }
     if text::same(word, b"register") {
-        return register_line(line, from);
+        return alone(Line::Register, line, from);
     }
     Line::Unreadable
 }

@@ -1,6 +1,7 @@
 // Every refusal of sizing and of the drill calls, obtained from compiled code, also where two apply: a test that prints each number and position.
 // `rt ci` holds what it prints to the file stdout, which was written from document 01.
 use libc::STDOUT_FILENO;
+use waterfall::Outcome;
 use waterfall::Register;
 use waterfall::Reply;
 use waterfall::close::close;
@@ -411,34 +412,35 @@ fn default(
     outcome.register
 }
 
+// Says what a call answered, and hands on the register that it gave back.
+fn told(label: &[u8], outcome: Outcome) -> Register
+    requires { ⌜ GivenBack (outcome .register) ⌝ }
+    ensures { λ r. ⌜ GivenBack r ⌝ }
+{
+    let reply = outcome.reply;
+    say(label, number_of(reply), 0);
+    outcome.register
+}
+
 fn payment(label: &[u8], register: Register, member: u64, amount: u64) -> Register
     requires { ⌜ GivenBack register ⌝ }
     ensures { λ r. ⌜ GivenBack r ⌝ }
 {
-    let outcome = pay(register, member, amount);
-    let reply = outcome.reply;
-    say(label, number_of(reply), 0);
-    outcome.register
+    told(label, pay(register, member, amount))
 }
 
 fn replenishment(label: &[u8], register: Register, member: u64, amount: u64) -> Register
     requires { ⌜ GivenBack register ⌝ }
     ensures { λ r. ⌜ GivenBack r ⌝ }
 {
-    let outcome = replenish(register, member, amount);
-    let reply = outcome.reply;
-    say(label, number_of(reply), 0);
-    outcome.register
+    told(label, replenish(register, member, amount))
 }
 
 fn closing(label: &[u8], register: Register) -> Register
     requires { ⌜ GivenBack register ⌝ }
     ensures { λ r. ⌜ GivenBack r ⌝ }
 {
-    let outcome = close(register);
-    let reply = outcome.reply;
-    say(label, number_of(reply), 0);
-    outcome.register
+    told(label, close(register))
 }
 
 // Document 01's register of four members.

@@ -1,4 +1,5 @@
-// Opens a register and answers drill calls, one a line of standard input, each before the next is read.
+// Opens a register and answers drill calls, one a line of standard input. The answers to the lines that came with one read are written before the
+// next read.
 use console::Line;
 use files::Sheet;
 use libc::STDERR_FILENO;
@@ -6,10 +7,14 @@ use libc::STDIN_FILENO;
 use libc::STDOUT_FILENO;
 use text::Number;
 use waterfall::Register;
+use waterfall::Reply;
 ghost use mathlib.Core.Path.{_≡_};
 ghost use Prim.Native.Nat.{_≤_};
 ghost use lib.ListN.{length};
 ghost use Rattle.waterfall.specs.Register.{GivenBack};
+
+// Where no more of the answers are kept than this, there is room for any other.
+const KEPT: usize = 49152;
 
 // How far the input is read: the chunk's bytes from `from` to `have` are still to be taken, `len` bytes of the line are there, and `line` is its number.
 struct Progress {
@@ -20,16 +25,16 @@ struct Progress {
     going: bool,
 }
 
-// The register after a line, and whether its answer was written.
-struct Answered {
-    register: Register,
-    written: bool,
+// What the next line says, Blank where none has ended, and how far the input is read then.
+struct Taken {
+    says: Line,
+    progress: Progress,
 }
 
-// The register after a turn, and how far the input is read.
-struct Stepped {
-    register: Register,
-    progress: Progress,
+// How much of the answers is not written yet, and whether the drill goes on.
+struct Kept {
+    used: usize,
+    going: bool,
 }
 
 // No run reaches the largest number.
@@ -57,80 +62,32 @@ fn say(out: &[u8], n: usize) -> bool {
     false
 }
 
-// The line that is `len` bytes long, which may be more than there is room for.
-fn read(line: &[u8], len: usize, ranks: &mut [u8]) -> Line
+// What a line says that has `len` bytes in the buffer and ends with the piece. A line that is not cut by a read is read where it stands.
+fn read(line: &mut [u8], len: usize, piece: &[u8], ranks: &mut [u8]) -> Line
     requires { ⌜ length (now ranks) ≡ 64 ⌝ }
 {
-    if line.len() < len {
+    if (len == 0) & (piece.len() <= line.len()) {
+        return console::read_line(piece, ranks);
+    }
+    let whole = text::append(line, len, piece);
+    if line.len() < whole {
         return Line::Unreadable;
     }
-    console::read_line(text::part(line, 0, len), ranks)
+    console::read_line(text::part(line, 0, whole), ranks)
 }
 
-// Answers a line.
-fn answer(
-    register: Register,
-    line: &[u8],
-    len: usize,
-    number: u64,
-    ranks: &mut [u8],
-    slip: &mut [u64],
-    out: &mut [u8],
-) -> Answered
-    requires { ⌜ GivenBack register ⌝ }
-    requires { ⌜ (length (now ranks) ≡ 64) × (length (now slip) ≡ 128) × (length (now out) ≡ 16384) ⌝ }
-    ensures { λ r. ⌜ GivenBack (r .register) ⌝ }
-{
-    match read(line, len, ranks) {
-        Line::Blank => Answered {
-            register,
-            written: true,
-        },
-        Line::Unreadable => {
-            let n = console::put_unreadable(out, number);
-            let written = say(out, n);
-            Answered { register, written }
-        }
-        Line::Register => {
-            let n = console::put_register(out, register);
-            let written = say(out, n);
-            Answered { register, written }
-        }
-        Line::Call(call) => {
-            let done = drill::apply(register, call, ranks, slip);
-            let reply = done.reply;
-            let after = done.register;
-            let n = console::put_reply(out, reply, slip);
-            let written = say(out, n);
-            Answered {
-                register: after,
-                written,
-            }
-        }
-    }
-}
-
-// Takes the chunk's bytes up to the next newline, and answers the line that ends there.
-fn take_piece(
-    register: Register,
-    chunk: &[u8],
-    line: &mut [u8],
-    ranks: &mut [u8],
-    slip: &mut [u64],
-    out: &mut [u8],
-    p: Progress,
-) -> Stepped
-    requires { ⌜ GivenBack register ⌝ }
-    requires { ⌜ (length (now ranks) ≡ 64) × (length (now slip) ≡ 128) × (length (now out) ≡ 16384) ⌝ }
-    ensures { λ r. ⌜ GivenBack (r .register) ⌝ }
+// Takes the chunk's bytes up to the next newline.
+fn take_piece(chunk: &[u8], line: &mut [u8], ranks: &mut [u8], p: Progress) -> Taken
+    requires { ⌜ length (now ranks) ≡ 64 ⌝ }
 {
     let from = p.from;
     let have = p.have;
     let to = text::find_newline(chunk, from, have);
-    let len = text::append(line, p.len, text::part(chunk, from, to));
+    let piece = text::part(chunk, from, to);
     if have <= to {
-        return Stepped {
-            register,
+        let len = text::append(line, p.len, piece);
+        return Taken {
+            says: Line::Blank,
             progress: Progress {
                 from: have,
                 have,
@@ -140,79 +97,109 @@ fn take_piece(
             },
         };
     }
-    let done = answer(register, line, len, p.line, ranks, slip, out);
-    let after = done.register;
-    Stepped {
-        register: after,
+    let says = read(line, p.len, piece, ranks);
+    Taken {
+        says,
         progress: Progress {
             from: behind(to),
             have,
             len: 0,
             line: next(p.line),
-            going: done.written,
+            going: true,
         },
     }
 }
 
 // The input has ended. A last line may have no newline.
-fn end_input(
-    register: Register,
-    line: &[u8],
-    ranks: &mut [u8],
-    slip: &mut [u64],
-    out: &mut [u8],
-    p: Progress,
-)
-    requires { ⌜ GivenBack register ⌝ }
-    requires { ⌜ (length (now ranks) ≡ 64) × (length (now slip) ≡ 128) × (length (now out) ≡ 16384) ⌝ }
+fn end_input(line: &mut [u8], ranks: &mut [u8], p: Progress) -> Taken
+    requires { ⌜ length (now ranks) ≡ 64 ⌝ }
 {
+    let progress = Progress {
+        from: 0,
+        have: 0,
+        len: 0,
+        line: p.line,
+        going: false,
+    };
     let len = p.len;
     if len == 0 {
-        return;
+        return Taken {
+            says: Line::Blank,
+            progress,
+        };
     }
-    answer(register, line, len, p.line, ranks, slip, out);
+    let says = read(line, len, b"", ranks);
+    Taken { says, progress }
 }
 
 // Reads what is there.
-fn read_chunk(chunk: &mut [u8], p: Progress) -> Progress {
+fn read_chunk(chunk: &mut [u8], line: &mut [u8], ranks: &mut [u8], p: Progress) -> Taken
+    requires { ⌜ length (now ranks) ≡ 64 ⌝ }
+{
     let got = libc::read(STDIN_FILENO, chunk);
     if got < 0 {
         os::fail(b"standard input");
     }
     let have = io::count(got, chunk);
-    Progress {
-        from: 0,
-        have,
-        len: p.len,
-        line: p.line,
-        going: got > 0,
+    if have == 0 {
+        return end_input(line, ranks, p);
+    }
+    Taken {
+        says: Line::Blank,
+        progress: Progress {
+            from: 0,
+            have,
+            len: p.len,
+            line: p.line,
+            going: true,
+        },
     }
 }
 
-// One turn: a line of the chunk, or another chunk.
-fn step(
-    register: Register,
-    chunk: &mut [u8],
-    line: &mut [u8],
-    ranks: &mut [u8],
-    slip: &mut [u64],
-    out: &mut [u8],
-    p: Progress,
-) -> Stepped
-    requires { ⌜ GivenBack register ⌝ }
-    requires { ⌜ (length (now ranks) ≡ 64) × (length (now slip) ≡ 128) × (length (now out) ≡ 16384) ⌝ }
-    ensures { λ r. ⌜ GivenBack (r .register) ⌝ }
+// A line of the chunk, or another chunk.
+fn take(chunk: &mut [u8], line: &mut [u8], ranks: &mut [u8], p: Progress) -> Taken
+    requires { ⌜ length (now ranks) ≡ 64 ⌝ }
 {
     let from = p.from;
     let have = p.have;
     if from < have {
-        return take_piece(register, chunk, line, ranks, slip, out, p);
+        return take_piece(chunk, line, ranks, p);
     }
-    let progress = read_chunk(chunk, p);
-    if !progress.going {
-        end_input(register, line, ranks, slip, out, p);
+    read_chunk(chunk, line, ranks, p)
+}
+
+// Writes the answers where there may be no room for another, and before the input is read on.
+fn make_room(out: &[u8], used: usize, p: Progress) -> Kept
+    ensures { λ r. ⌜ r .used ≤ 49152 ⌝ }
+{
+    if used <= KEPT {
+        if p.going & (p.from < p.have) {
+            return Kept { used, going: true };
+        }
     }
-    Stepped { register, progress }
+    Kept {
+        used: 0,
+        going: say(out, used) & p.going,
+    }
+}
+
+// Answers behind those that are kept.
+fn put_unreadable(out: &mut [u8], at: usize, number: u64) -> usize
+    requires { ⌜ (at ≤ 49152) × (length (now out) ≡ 65536) ⌝ }
+{
+    at + console::put_unreadable(&mut out[at..], number)
+}
+
+fn put_register(out: &mut [u8], at: usize, register: Register) -> usize
+    requires { ⌜ (at ≤ 49152) × (length (now out) ≡ 65536) ⌝ }
+{
+    at + console::put_register(&mut out[at..], register)
+}
+
+fn put_reply(out: &mut [u8], at: usize, reply: Reply, slip: &[u64]) -> usize
+    requires { ⌜ (at ≤ 49152) × (length (now out) ≡ 65536) × (length (now slip) ≡ 128) ⌝ }
+{
+    at + console::put_reply(&mut out[at..], reply, slip)
 }
 
 // The turns are counted down from a number that no run uses up.
@@ -225,7 +212,7 @@ fn drill(
     out: &mut [u8],
 )
     requires { ⌜ GivenBack first ⌝ }
-    requires { ⌜ (length (now ranks) ≡ 64) × (length (now slip) ≡ 128) × (length (now out) ≡ 16384) ⌝ }
+    requires { ⌜ (length (now ranks) ≡ 64) × (length (now slip) ≡ 128) × (length (now out) ≡ 65536) ⌝ }
 {
     let mut register = first;
     let mut p = Progress {
@@ -235,16 +222,31 @@ fn drill(
         line: 1,
         going: true,
     };
+    let mut used: usize = 0;
     let mut turns = u64::MAX;
     while turns > 0 {
-        if !p.going {
+        let kept = make_room(out, used, p);
+        if !kept.going {
             return;
         }
-        let after = step(register, chunk, line, ranks, slip, out, p);
-        let given = after.register;
-        let progress = after.progress;
-        register = given;
+        let at = kept.used;
+        let number = p.line;
+        let taken = take(chunk, line, ranks, p);
+        let says = taken.says;
+        let progress = taken.progress;
         p = progress;
+        used = match says {
+            Line::Blank => at,
+            Line::Unreadable => put_unreadable(out, at, number),
+            Line::Register => put_register(out, at, register),
+            Line::Call(call) => {
+                let done = drill::apply(register, call, ranks, slip);
+                let reply = done.reply;
+                let after = done.register;
+                register = after;
+                put_reply(out, at, reply, slip)
+            }
+        };
         turns -= 1;
     }
 }
@@ -257,7 +259,7 @@ fn run(sheet: &[u8], own: u64) {
     let mut line = [0u8; 4096];
     let mut ranks = [255u8; 64];
     let mut slip = [0u64; 128];
-    let mut out = [0u8; 16384];
+    let mut out = [0u8; 65536];
     let n = console::put_opening(&mut out, refusal);
     if say(&out, n) {
         drill(

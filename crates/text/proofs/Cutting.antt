@@ -1,23 +1,26 @@
 -- Laws of a line cut at its commas.
 use Prim.Native.Nat.{ℕ, suc, _+_, _-_, _≤_, _<_}
-use mathlib.Core.Path.{_≡_, refl, ap, _∙_}
-use mathlib.Core.Bool.{Bool, true, false, not}
+use mathlib.Core.Path.{_≡_, refl, sym, ap, _∙_}
+use mathlib.Core.Bool.{Bool, true, false, not, _||_}
 use mathlib.Core.List.{List, [], _∷_}
+use native.Mathlib.Nat.{add-zero}
+use native.Mathlib.Numerals.{add-one}
 use native.Mathlib.Omega.{arith}
-use lib.Dec.{eqb}
-use lib.ListN.{length, take, drop, length-drop}
-use lib.Seq.{take-all, drop-drop}
+use borrow.Author.Tests.{ne-eqb}
+use lib.Dec.{eqb, ltb}
+use lib.ListN.{length, getD, take, drop, length-drop}
+use lib.Seq.{take-all, drop-drop, getD-drop}
 use Rattle.lists.specs.Checks.{check}
-use Rattle.lists.proofs.Checks.{check-by, check-true, check-false}
+use Rattle.lists.proofs.Checks.{check-by, check-true, check-false, check-lt, check-nlt}
 use Rattle.text.specs.Buffer.{written}
 use Rattle.text.specs.Words.{run, isNot, part, findOf}
 use Rattle.text.specs.Numbers.{isEmpty}
-use Rattle.text.specs.Cells.{contentOf, trimmed, byteOf, halfOf, amountOf}
+use Rattle.text.specs.Cells.{contentOf, trimmed, isBad, valueOf, byteOf, halfOf, amountOf}
 use Rattle.text.specs.Rows.{inFront, cellsOf, memberRow, stressRow, fourOf, fiveOf, recordOf, rowOf, bytesOf}
 use Rattle.text.specs.declared.cells.Field.{Field}
 use Rattle.text.specs.declared.rows.Kind.{Kind}
 use Rattle.text.specs.declared.rows.Row.{Row}
-use Rattle.text.proofs.Lists.{part-rest}
+use Rattle.text.proofs.Lists.{by-le, part-rest}
 use Rattle.text.proofs.Trimming.{empty, some}
 
 -- the first byte is a comma, or goes into the first cell
@@ -82,23 +85,87 @@ module _ (s : List ℕ) (from e : ℕ) (f : e ≡ findOf 44 s from (length s)) w
       cells-all (drop from s) l
       ∙ rw (cell, take-all width (drop from s) l)
 
--- cells one behind the other
-pub also : {C D E : List (List ℕ)} {p : List ℕ} → C ≡ p ∷ D → D ≡ E → C ≡ p ∷ E
-also {p = p} e f = e ∙ ap (λ (x : List (List ℕ)). p ∷ x) f
+-- the cells behind the one that ends at e
+abbrev pub behind : List ℕ → ℕ → ℕ
+behind s e = check (ltb e (length s)) (length (cellsOf (drop (e + 1) s))) 0
 
-pub four-many : {C : List (List ℕ)} {p q r t : List ℕ} (s : List ℕ) → C ≡ p ∷ q ∷ r ∷ t ∷ cellsOf s → Row.Bad ≡ fourOf C
-four-many {p = p} {q} {r} {t} s e =
-    rw e (cells-some (λ cs. Row.Bad ≡ fourOf (p ∷ q ∷ r ∷ t ∷ cs)) s (λ x xs. refl))
+module _ (s : List ℕ) (from e : ℕ) (f : e ≡ findOf 44 s from (length s)) (k : from ≤ length s) where
+  pub one-more : length (cellsOf (drop from s)) ≡ behind s e + 1
+  one-more =
+      by-le (length s) e
+      (λ h. ap length (cut-last s from e f k h) ∙ ap (λ (n : ℕ). n + 1) (check-nlt _ _ e (length s) h refl))
+      (λ h. ap length (cut s from e f h) ∙ sym (add-one _) ∙ ap (λ (n : ℕ). n + 1) (check-lt _ _ e (length s) h refl))
 
-pub five-many : {C : List (List ℕ)} {p q r t u : List ℕ} (s : List ℕ) → C ≡ p ∷ q ∷ r ∷ t ∷ u ∷ cellsOf s → Row.Bad ≡ fiveOf C
-five-many {p = p} {q} {r} {t} {u} s e =
-    rw e (cells-some (λ cs. Row.Bad ≡ fiveOf (p ∷ q ∷ r ∷ t ∷ u ∷ cs)) s (λ x xs. refl))
+  -- a line that has a cell behind this one goes on
+  pub goes-on : 1 < length (cellsOf (drop from s)) → e < length s
+  goes-on l =
+      by-le (length s) e
+      (λ h. absurd (omega (arith, ap length (cut-last s from e f k h))))
+      (λ h. h)
 
-pub four-made : {C : List (List ℕ)} {p q r t : List ℕ} {m a b c : Field} {row : Row} → C ≡ p ∷ q ∷ r ∷ t ∷ [] → m ≡ byteOf p → a ≡ amountOf q → b ≡ amountOf r → c ≡ amountOf t → row ≡ memberRow m a b c → row ≡ fourOf C
-four-made e f g h i k = k ∙ rw (e, f, g, h, i)
+  pub first-cell : getD (cellsOf (drop from s)) 0 [] ≡ part s from e
+  first-cell =
+      by-le (length s) e
+      (λ h. rw (cut-last s from e f k h))
+      (λ h. rw (cut s from e f h))
 
-pub five-made : {C : List (List ℕ)} {p q r t u : List ℕ} {d s m w l : Field} {row : Row} → C ≡ p ∷ q ∷ r ∷ t ∷ u ∷ [] → d ≡ halfOf p → s ≡ halfOf q → m ≡ byteOf r → w ≡ byteOf t → l ≡ amountOf u → row ≡ stressRow d s m w l → row ≡ fiveOf C
-five-made e f g h i j k = k ∙ rw (e, f, g, h, i, j)
+  -- the cell that stands here, and those behind it, of all the cells
+  module _ (cs : List (List ℕ)) (i : ℕ) (h : cellsOf (drop from s) ≡ drop i cs) where
+    pub cell-at : part s from e ≡ getD cs i []
+    cell-at =
+        sym first-cell
+        ∙ ap (λ (ds : List (List ℕ)). getD ds 0 []) h
+        ∙ getD-drop i cs 0 []
+        ∙ ap (λ (n : ℕ). getD cs n []) (add-zero i)
+
+    pub cells-behind : i + 1 < length cs → (e < length s) × (cellsOf (drop (e + 1) s) ≡ drop (i + 1) cs)
+    cells-behind l =
+        let g : e < length s = goes-on (omega (arith, ap length h, length-drop i cs)) in
+        (g, ap (drop 1) (sym (cut s from e f g) ∙ h) ∙ drop-drop 1 i cs)
+
+pub none-behind : (s : List ℕ) (e : ℕ) → length s ≤ e → 0 ≡ behind s e
+none-behind s e h = check-nlt _ _ e (length s) h refl
+
+pub some-behind : (s : List ℕ) (e : ℕ) → e < length s → length (cellsOf (drop (e + 1) s)) ≡ behind s e
+some-behind s e h = check-lt _ _ e (length s) h refl
+
+-- a row by the number of its cells
+pub four-cells : (cs : List (List ℕ)) → check (eqb (length cs) 4) (memberRow (byteOf (getD cs 0 [])) (amountOf (getD cs 1 [])) (amountOf (getD cs 2 [])) (amountOf (getD cs 3 []))) Row.Bad ≡ fourOf cs
+unfolding check
+four-cells [] = refl
+four-cells (a ∷ []) = refl
+four-cells (a ∷ b ∷ []) = refl
+four-cells (a ∷ b ∷ c ∷ []) = refl
+four-cells (a ∷ b ∷ c ∷ d ∷ []) = refl
+four-cells (a ∷ b ∷ c ∷ d ∷ x ∷ xs) = rw (ne-eqb (length (a ∷ b ∷ c ∷ d ∷ x ∷ xs)) 4 (λ k. omega arith))
+
+pub five-cells : (cs : List (List ℕ)) → check (eqb (length cs) 5) (stressRow (halfOf (getD cs 0 [])) (halfOf (getD cs 1 [])) (byteOf (getD cs 2 [])) (byteOf (getD cs 3 [])) (amountOf (getD cs 4 []))) Row.Bad ≡ fiveOf cs
+unfolding check
+five-cells [] = refl
+five-cells (a ∷ []) = refl
+five-cells (a ∷ b ∷ []) = refl
+five-cells (a ∷ b ∷ c ∷ []) = refl
+five-cells (a ∷ b ∷ c ∷ d ∷ []) = refl
+five-cells (a ∷ b ∷ c ∷ d ∷ e ∷ []) = refl
+five-cells (a ∷ b ∷ c ∷ d ∷ e ∷ x ∷ xs) = rw (ne-eqb (length (a ∷ b ∷ c ∷ d ∷ e ∷ x ∷ xs)) 5 (λ k. omega arith))
+
+-- and by its fields
+pub member-fields : (m a b c : Field) → check (((isBad m || isBad a) || isBad b) || isBad c) Row.Bad (Row.Member (valueOf m) (valueOf a) (valueOf b) (valueOf c)) ≡ memberRow m a b c
+unfolding check
+member-fields Field.Bad a b c = refl
+member-fields (Field.Value m) Field.Bad b c = refl
+member-fields (Field.Value m) (Field.Value a) Field.Bad c = refl
+member-fields (Field.Value m) (Field.Value a) (Field.Value b) Field.Bad = refl
+member-fields (Field.Value m) (Field.Value a) (Field.Value b) (Field.Value c) = refl
+
+pub stress-fields : (d s m w l : Field) → check ((((isBad d || isBad s) || isBad m) || isBad w) || isBad l) Row.Bad (Row.Stress (valueOf d) (valueOf s) (valueOf m) (valueOf w) (valueOf l)) ≡ stressRow d s m w l
+unfolding check
+stress-fields Field.Bad s m w l = refl
+stress-fields (Field.Value d) Field.Bad m w l = refl
+stress-fields (Field.Value d) (Field.Value s) Field.Bad w l = refl
+stress-fields (Field.Value d) (Field.Value s) (Field.Value m) Field.Bad l = refl
+stress-fields (Field.Value d) (Field.Value s) (Field.Value m) (Field.Value w) Field.Bad = refl
+stress-fields (Field.Value d) (Field.Value s) (Field.Value m) (Field.Value w) (Field.Value l) = refl
 
 -- what a line holds, from its content
 module _ (kind : Kind) (line s word : List ℕ) (e : s ≡ contentOf line) (f : word ≡ trimmed s) where

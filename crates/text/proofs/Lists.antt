@@ -2,7 +2,7 @@
 use Prim.Native.Nat.{ℕ, suc, _+_, _-_, _/_, _%_, _≤_, _<_, min}
 use mathlib.Core.Path.{_≡_, refl, sym, ap, _∙_}
 use mathlib.Core.List.{List, [], _∷_, _++_, append-assoc, append-nil}
-use mathlib.Core.Bool.{Bool, true, false, _&&_}
+use mathlib.Core.Bool.{Bool, true, false, not, _&&_, _||_}
 use borrow.Author.Tests.{leb-true, leb-false, eq-eqb, ne-eqb}
 use lib.Dec.{leb, eqb}
 use native.Mathlib.Numerals.{add-one}
@@ -17,6 +17,10 @@ use Rattle.text.specs.Words.{part, sameOf}
 pub and-false : (a : Bool) → (a && false) ≡ false
 and-false true = refl
 and-false false = refl
+
+pub not-or : (a b : Bool) → (not a && not b) ≡ not (a || b)
+not-or true b = refl
+not-or false b = refl
 
 -- a fact that holds either way
 pub by-le : {P : Type 0} (m n : ℕ) → (m ≤ n → P) → (n < m → P) → P

@@ -1,7 +1,7 @@
 -- A line of a sheet. "Spaces around a cell are dropped; CR before the line's end is dropped."
 use Prim.Native.Nat.{ℕ, _-_}
 use mathlib.Core.Path.{_≡_, refl}
-use mathlib.Core.Bool.{_&&_}
+use mathlib.Core.Bool.{Bool, true, false, _&&_}
 use mathlib.Core.List.{List, [], _∷_}
 use lib.Dec.{eqb, ltb}
 use lib.ListN.{length, getD, take, drop}
@@ -31,6 +31,15 @@ trimBack (b ∷ s) = check (isSpace b && isEmpty (trimBack s)) [] (b ∷ trimBac
 -- the spaces around dropped
 unfoldable pub trimmed : List ℕ → List ℕ
 trimmed s = trimBack (drop (run isSpace s) s)
+
+-- whether a field is bad, and the value of one that is not
+abbrev pub isBad : Field → Bool
+isBad (Field.Value v) = false
+isBad Field.Bad = true
+
+abbrev pub valueOf : Field → ℕ
+valueOf (Field.Value v) = v
+valueOf Field.Bad = 0
 
 -- a number that does not fit its field is bad, and so is what is no number
 abbrev pub within : ℕ → Number → Field

@@ -24,6 +24,11 @@ isSpace b = eqb b 32
 abbrev pub inWord : ℕ → Bool
 inWord b = not (eqb b 32 || eqb b 35)
 
+-- whether a scan of a word, or else of spaces, passes a byte
+abbrev pub passes : Bool → ℕ → Bool
+passes true = inWord
+passes false = isSpace
+
 abbrev pub isNot : ℕ → ℕ → Bool
 isNot x b = not (eqb b x)
 

@@ -8,11 +8,12 @@ use crate::words::find_byte;
 use crate::words::part;
 use crate::words::same;
 ghost use mathlib.Core.Path.{_≡_};
-ghost use Prim.Native.Nat.{_+_, _≤_};
-ghost use lib.ListN.{length, drop};
+ghost use mathlib.Core.List.{[]};
+ghost use Prim.Native.Nat.{_+_, _≤_, _<_};
+ghost use lib.ListN.{length, getD, drop};
 ghost use Rattle.text.specs.Buffer.{written};
-ghost use Rattle.text.specs.Words.{findOf, part as Words·part};
-ghost use Rattle.text.specs.Cells.{fieldOf};
+ghost use Rattle.text.specs.Words.{findOf};
+ghost use Rattle.text.specs.Cells.{fieldOf, isBad, valueOf};
 ghost use Rattle.text.specs.Rows.{namedOf, fourOf, fiveOf, memberRow, stressRow, rowOf, bytesOf, cellsOf};
 
 // A missing amount, which no number may be.
@@ -72,123 +73,118 @@ fn cell_end(s: &[u8], from: usize) -> usize
     find_byte(s, from, s.len(), 44)
 }
 
-// What the cell from `from` to `to` says.
-fn field_at(s: &[u8], from: usize, to: usize, blank: u64, limit: u64) -> Field
-    ensures { λ r. ⌜ r ≡ fieldOf blank limit (Words·part (now (s .entry)) from to) ⌝ }
+// How many commas a line has: one less than it has cells.
+fn commas(s: &[u8]) -> usize
+    ensures { λ r. ⌜ r + 1 ≡ length (cellsOf (now (s .entry))) ⌝ }
 {
-    read_field(part(s, from, to), blank, limit)
+    let mut count: usize = 0;
+    let mut end = cell_end(s, 0);
+    while end < s.len() {
+        end = cell_end(s, end + 1);
+        count += 1;
+    }
+    count
+}
+
+// Where the cell starts that has k cells in front of it.
+fn cell_start(s: &[u8], k: usize) -> usize
+    requires { ⌜ k < length (cellsOf (now s)) ⌝ }
+    ensures { λ r. ⌜ (r ≤ length (now (s .entry))) × (cellsOf (drop r (now (s .entry))) ≡ drop k (cellsOf (now (s .entry)))) ⌝ }
+{
+    let mut start: usize = 0;
+    let mut i: usize = 0;
+    while i < k {
+        start = cell_end(s, start) + 1;
+        i += 1;
+    }
+    start
+}
+
+// What the cell says that has k cells in front of it.
+fn field(s: &[u8], k: usize, blank: u64, limit: u64) -> Field
+    requires { ⌜ k < length (cellsOf (now s)) ⌝ }
+    ensures { λ r. ⌜ r ≡ fieldOf blank limit (getD (cellsOf (now (s .entry))) k []) ⌝ }
+{
+    let start = cell_start(s, k);
+    let end = cell_end(s, start);
+    read_field(part(s, start, end), blank, limit)
+}
+
+fn is_bad(f: Field) -> bool
+    ensures { λ r. ⌜ r ≡ isBad f ⌝ }
+{
+    match f {
+        Field::Value(_) => false,
+        Field::Bad => true,
+    }
+}
+
+fn value(f: Field) -> u64
+    ensures { λ r. ⌜ r ≡ valueOf f ⌝ }
+{
+    match f {
+        Field::Value(v) => v,
+        Field::Bad => 0,
+    }
 }
 
 fn member_row(member: Field, first: Field, second: Field, third: Field) -> Row
     ensures { λ r. ⌜ r ≡ memberRow member first second third ⌝ }
 {
-    let Field::Value(m) = member else {
+    if is_bad(member) | is_bad(first) | is_bad(second) | is_bad(third) {
         return Row::Bad;
-    };
-    let Field::Value(a) = first else {
-        return Row::Bad;
-    };
-    let Field::Value(b) = second else {
-        return Row::Bad;
-    };
-    let Field::Value(c) = third else {
-        return Row::Bad;
-    };
+    }
     Row::Member {
-        member: m,
-        first: a,
-        second: b,
-        third: c,
+        member: value(member),
+        first: value(first),
+        second: value(second),
+        third: value(third),
     }
 }
 
 fn stress_row(day: Field, scenario: Field, member: Field, weak: Field, loss: Field) -> Row
     ensures { λ r. ⌜ r ≡ stressRow day scenario member weak loss ⌝ }
 {
-    let Field::Value(d) = day else {
+    if is_bad(day) | is_bad(scenario) | is_bad(member) | is_bad(weak) | is_bad(loss) {
         return Row::Bad;
-    };
-    let Field::Value(s) = scenario else {
-        return Row::Bad;
-    };
-    let Field::Value(m) = member else {
-        return Row::Bad;
-    };
-    let Field::Value(w) = weak else {
-        return Row::Bad;
-    };
-    let Field::Value(l) = loss else {
-        return Row::Bad;
-    };
+    }
     Row::Stress {
-        day: d,
-        scenario: s,
-        member: m,
-        weak: w,
-        loss: l,
+        day: value(day),
+        scenario: value(scenario),
+        member: value(member),
+        weak: value(weak),
+        loss: value(loss),
     }
 }
 
-// The four cells of a register's or a shares sheet's line, where there are four.
+// A line of a register or a shares sheet, where it has four cells.
 fn four(s: &[u8]) -> Row
     ensures { λ r. ⌜ r ≡ fourOf (cellsOf (now (s .entry))) ⌝ }
 {
-    let n = s.len();
-    let a = cell_end(s, 0);
-    if n <= a {
-        return Row::Bad;
-    }
-    let b = cell_end(s, a + 1);
-    if n <= b {
-        return Row::Bad;
-    }
-    let c = cell_end(s, b + 1);
-    if n <= c {
-        return Row::Bad;
-    }
-    let d = cell_end(s, c + 1);
-    if d < n {
+    if commas(s) != 3 {
         return Row::Bad;
     }
     member_row(
-        field_at(s, 0, a, 255, 256),
-        field_at(s, a + 1, b, MISSING, MISSING),
-        field_at(s, b + 1, c, MISSING, MISSING),
-        field_at(s, c + 1, d, MISSING, MISSING),
+        field(s, 0, 255, 256),
+        field(s, 1, MISSING, MISSING),
+        field(s, 2, MISSING, MISSING),
+        field(s, 3, MISSING, MISSING),
     )
 }
 
-// The five cells of a stress sheet's line, where there are five.
+// A line of a stress sheet, where it has five cells.
 fn five(s: &[u8]) -> Row
     ensures { λ r. ⌜ r ≡ fiveOf (cellsOf (now (s .entry))) ⌝ }
 {
-    let n = s.len();
-    let a = cell_end(s, 0);
-    if n <= a {
-        return Row::Bad;
-    }
-    let b = cell_end(s, a + 1);
-    if n <= b {
-        return Row::Bad;
-    }
-    let c = cell_end(s, b + 1);
-    if n <= c {
-        return Row::Bad;
-    }
-    let d = cell_end(s, c + 1);
-    if n <= d {
-        return Row::Bad;
-    }
-    let e = cell_end(s, d + 1);
-    if e < n {
+    if commas(s) != 4 {
         return Row::Bad;
     }
     stress_row(
-        field_at(s, 0, a, 65535, 65536),
-        field_at(s, a + 1, b, 65535, 65536),
-        field_at(s, b + 1, c, 255, 256),
-        field_at(s, c + 1, d, 255, 256),
-        field_at(s, d + 1, e, MISSING, MISSING),
+        field(s, 0, 65535, 65536),
+        field(s, 1, 65535, 65536),
+        field(s, 2, 255, 256),
+        field(s, 3, 255, 256),
+        field(s, 4, MISSING, MISSING),
     )
 }
 

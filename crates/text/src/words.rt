@@ -2,7 +2,7 @@
 ghost use mathlib.Core.Path.{_≡_};
 ghost use Prim.Native.Nat.{_+_, _≤_, min, max};
 ghost use lib.ListN.{length, drop};
-ghost use Rattle.text.specs.Words.{run, part as Words·part, isSpace, inWord, wordOf, findOf, sameOf};
+ghost use Rattle.text.specs.Words.{run, part as Words·part, isSpace, inWord, passes, wordOf, findOf, sameOf};
 
 // Where a word stands. Where start is end, there is none.
 pub struct Word {
@@ -51,13 +51,23 @@ pub fn is_word(line: &[u8], start: usize, end: usize, word: &[u8]) -> bool
     same(part(line, start, end), word)
 }
 
-// The first place from `from` on that holds no space.
-pub fn skip_spaces(line: &[u8], from: usize) -> usize
-    ensures { λ r. ⌜ (r ≡ from + run isSpace (drop from (now (line .entry)))) × (from ≤ r) × (r ≤ max from (length (now (line .entry)))) ⌝ }
+// Whether a scan of a word, or else of spaces, passes a byte.
+fn passes(word: bool, b: u8) -> bool
+    ensures { λ r. ⌜ r ≡ passes word b ⌝ }
+{
+    if word {
+        return (b != 32) & (b != 35);
+    }
+    b == 32
+}
+
+// The first place from `from` on that a scan of a word, or else of spaces, does not pass.
+fn scan(line: &[u8], from: usize, word: bool) -> usize
+    ensures { λ r. ⌜ (r ≡ from + run (passes word) (drop from (now (line .entry)))) × (from ≤ r) × (r ≤ max from (length (now (line .entry)))) ⌝ }
 {
     let mut i = from;
     while i < line.len() {
-        if line[i] != 32 {
+        if !passes(word, line[i]) {
             return i;
         }
         i += 1;
@@ -65,22 +75,18 @@ pub fn skip_spaces(line: &[u8], from: usize) -> usize
     i
 }
 
+// The first place from `from` on that holds no space.
+pub fn skip_spaces(line: &[u8], from: usize) -> usize
+    ensures { λ r. ⌜ (r ≡ from + run isSpace (drop from (now (line .entry)))) × (from ≤ r) × (r ≤ max from (length (now (line .entry)))) ⌝ }
+{
+    scan(line, from, false)
+}
+
 // The first place from `from` on that holds a space or a '#'.
 fn word_end(line: &[u8], from: usize) -> usize
     ensures { λ r. ⌜ (r ≡ from + run inWord (drop from (now (line .entry)))) × (from ≤ r) × (r ≤ max from (length (now (line .entry)))) ⌝ }
 {
-    let mut i = from;
-    while i < line.len() {
-        let b = line[i];
-        if b == 32 {
-            return i;
-        }
-        if b == 35 {
-            return i;
-        }
-        i += 1;
-    }
-    i
+    scan(line, from, true)
 }
 
 // The next word of a line, from a place on.

@@ -1,5 +1,6 @@
 -- `drill` is safe and ends. The measure is the number of turns that are left; the register is one that a call gave back, and the buffers keep their lengths.
-use mathlib.Core.Path.{_≡_}
+use mathlib.Core.Path.{_≡_, ap}
+use mathlib.Core.Logic.{_⊎_, ⊎-elim}
 use native.Mathlib.Omega.{arith}
 use lib.ListN.{length}
 use Rattle.waterfall.specs.Register.{GivenBack}
@@ -8,13 +9,16 @@ use Rattle.run_drill.proofs.drill.Statement.{statement}
 use Rattle.run_drill.proofs.drill.Tie as tie
 
 abbrev Inv-loop : tie.InvT-loop
-Inv-loop chunk₀ line₀ ranks₀ slip₀ out₀ register₀ p₀ turns₀ chunk line ranks slip out register p turns = GivenBack register × (length chunk ≡ length chunk₀) × (length line ≡ length line₀) × (length ranks ≡ length ranks₀) × (length slip ≡ length slip₀) × (length out ≡ length out₀)
+Inv-loop chunk₀ line₀ ranks₀ slip₀ out₀ register₀ p₀ used₀ turns₀ chunk line ranks slip out register p used turns = GivenBack register × (length chunk ≡ length chunk₀) × (length line ≡ length line₀) × (length ranks ≡ length ranks₀) × (length slip ≡ length slip₀) × (length out ≡ length out₀)
 
 abbrev μ-loop : tie.MeasureT-loop
-μ-loop chunk₀ line₀ ranks₀ slip₀ out₀ register₀ p₀ turns₀ chunk line ranks slip out register p turns = turns
+μ-loop chunk₀ line₀ ranks₀ slip₀ out₀ register₀ p₀ used₀ turns₀ chunk line ranks slip out register p used turns = turns
 
 loop-holds : tie.Need-loop-holds Inv-loop μ-loop
-loop-holds c = (c .before .before .before .before .before .pre .0, search needs, search needs, search needs, search needs, search needs)
+loop-holds c = search needs
+
+make-room-requires : tie.Need-make-room-requires Inv-loop μ-loop
+make-room-requires c κs = search needs
 
 same-length : tie.Need-same-length Inv-loop μ-loop
 same-length c = search needs
@@ -34,8 +38,39 @@ same-length-5 c = search needs
 returns : tie.Need-returns Inv-loop μ-loop
 returns c = search needs
 
-step-requires : tie.Need-step-requires Inv-loop μ-loop
-step-requires c κs = (c .before .before .before .before .before .before .before .before .loop .inv .0, (omega arith, omega arith, omega arith))
+take-requires : tie.Need-take-requires Inv-loop μ-loop
+take-requires c κs = search needs
+
+enum-told : tie.Need-enum-told Inv-loop μ-loop
+enum-told c = search needs
+
+enum-told-2 : tie.Need-enum-told-2 Inv-loop μ-loop
+enum-told-2 c = search needs
+
+put-unreadable-requires : tie.Need-put-unreadable-requires Inv-loop μ-loop
+put-unreadable-requires c κs = search needs
+
+enum-told-3 : tie.Need-enum-told-3 Inv-loop μ-loop
+enum-told-3 c = search needs
+
+put-register-requires : tie.Need-put-register-requires Inv-loop μ-loop
+put-register-requires c κs = search needs
+
+enum-known-says : tie.Need-enum-known-says Inv-loop μ-loop
+enum-known-says c = search needs
+
+apply-requires : tie.Need-apply-requires Inv-loop μ-loop
+apply-requires c κs = search needs
+
+put-reply-requires : tie.Need-put-reply-requires Inv-loop μ-loop
+put-reply-requires c κs =
+    let m = c .before .before .before .before .before .before .before .before .before .before .before .before .before .before .before .before .before .before .before .before .before .before .before .before in
+    let l = m .before .before .before in
+    let i = l .loop .inv in
+    let p = l .before .before .before .before .before .before .pre in
+    let k = m .make-room .ensures in
+    let a = c .before .before .before .before .before .apply .kept in
+    search needs
 
 sub-turns : tie.Need-sub-turns Inv-loop μ-loop
 sub-turns c = search needs
@@ -43,8 +78,21 @@ sub-turns c = search needs
 loop-less : tie.Need-loop-less Inv-loop μ-loop
 loop-less c = search needs
 
+-- by the arm of the `match` that was taken
+by-case : {A B C D P : Type 0} → (A → P) → (B → P) → (C → P) → (D → P) → A ⊎ (B ⊎ (C ⊎ D)) → P
+by-case a b c d w = ⊎-elim a (⊎-elim b (⊎-elim c d)) w
+
 loop-again : tie.Need-loop-again Inv-loop μ-loop
-loop-again c = (c .before .before .before .before .before .before .before .before .before .before .before .before .step .ensures, search needs, search needs, search needs, search needs, search needs)
+loop-again c =
+    let i = c .before .before .before .before .before .before .before .before .before .before .before .before .before .before .before .before .before .loop .inv in
+    let w = c .match .came in (
+      by-case (λ a. rw (a .4) (i .0)) (λ a. rw (a .8) (i .0)) (λ a. rw (a .8) (i .0)) (λ a. rw (a .16) (a .5 .ensures .1 .1)) w,
+      search needs,
+      search needs,
+      search needs,
+      by-case (λ a. rw (a .2) (i .4)) (λ a. rw (a .6) (i .4)) (λ a. rw (a .6) (i .4)) (λ a. omega (arith, ap length (a .14), a .5 .kept .1 .1 .1 .0)) w,
+      by-case (λ a. rw (a .3) (i .5)) (λ a. omega (arith, ap length (a .7), a .3 .kept .0)) (λ a. omega (arith, ap length (a .7), a .3 .kept .0)) (λ a. omega (arith, ap length (a .15), a .11 .kept .0)) w,
+    )
 
 same-length-6 : tie.Need-same-length-6 Inv-loop μ-loop
 same-length-6 c = search needs
@@ -71,13 +119,22 @@ drill-spec =
     Inv-loop
     μ-loop
     loop-holds
+    make-room-requires
     same-length
     same-length-2
     same-length-3
     same-length-4
     same-length-5
     returns
-    step-requires
+    take-requires
+    enum-told
+    enum-told-2
+    put-unreadable-requires
+    enum-told-3
+    put-register-requires
+    enum-known-says
+    apply-requires
+    put-reply-requires
     sub-turns
     loop-less
     loop-again

@@ -38,8 +38,8 @@ enum-known-reply-2 c = search needs
 put-allocation-requires : tie.Need-put-allocation-requires
 put-allocation-requires c κs = search needs
 
-put-charges-requires : tie.Need-put-charges-requires
-put-charges-requires c κs = search needs
+put-rows-requires : tie.Need-put-rows-requires
+put-rows-requires c κs = search needs
 
 same-length : tie.Need-same-length
 same-length c = search needs
@@ -69,7 +69,7 @@ returns-3 c =
     let h = c .before .before in
     let a = h .before .before .before .before in
     let y = a .before .before .before in
-    (put-front _ _ (put-as _ _ _ _ (rw (y .reply2 .given .1)) (put-then _ _ _ _ (put-behind _ _ (a .put-allocation .ensures .0)) (h .put-charges .ensures .0) (omega arith))), omega arith)
+    (put-front _ _ (put-as _ _ _ _ (rw (y .reply2 .given .1)) (put-then _ _ _ _ (put-behind _ _ (a .put-allocation .ensures .0)) (h .put-rows .ensures .0) (omega arith))), omega arith)
 
 pub put-reply-spec : {M : Type 1} → statement M
 put-reply-spec =
@@ -86,7 +86,7 @@ put-reply-spec =
     put-text-requires-2
     enum-known-reply-2
     put-allocation-requires
-    put-charges-requires
+    put-rows-requires
     same-length
     returns
     same-length-2

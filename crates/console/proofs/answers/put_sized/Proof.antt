@@ -33,8 +33,8 @@ returns c =
 put-figures-requires : tie.Need-put-figures-requires
 put-figures-requires c κs = search needs
 
-put-requirements-requires : tie.Need-put-requirements-requires
-put-requirements-requires c κs = search needs
+put-rows-requires : tie.Need-put-rows-requires
+put-rows-requires c κs = search needs
 
 same-length-2 : tie.Need-same-length-2
 same-length-2 c = search needs
@@ -45,7 +45,7 @@ returns-2 c =
     let q = c .before .before in
     let p = q .before .before .before .before in
     let i = p .before .before in
-    (put-front _ _ (put-as _ _ _ _ (check-true _ _ _ (eq-eqb _ 0 (i .if1 .left)) refl) (put-then _ _ _ _ (put-behind _ _ (p .put-figures .ensures .0)) (q .put-requirements .ensures .0) (omega arith))), omega arith)
+    (put-front _ _ (put-as _ _ _ _ (check-true _ _ _ (eq-eqb _ 0 (i .if1 .left)) refl) (put-then _ _ _ _ (put-behind _ _ (p .put-figures .ensures .0)) (q .put-rows .ensures .0) (omega arith))), omega arith)
 
 pub put-sized-spec : {M : Type 1} → statement M
 put-sized-spec =
@@ -57,6 +57,6 @@ put-sized-spec =
     same-length
     returns
     put-figures-requires
-    put-requirements-requires
+    put-rows-requires
     same-length-2
     returns-2)

@@ -32,8 +32,8 @@ returns c =
     let z = default-bad _ _ (t .ensures .1 .1) (sym (r .read-ranks .ensures .0) ∙ not-true _ (i .if1 .taken)) in
     (z .0, k .clear .ensures ∙ z .1)
 
-default-of-requires : tie.Need-default-of-requires
-default-of-requires c κs = search needs
+call-of-requires : tie.Need-call-of-requires
+call-of-requires c κs = search needs
 
 same-length-2 : tie.Need-same-length-2
 same-length-2 c = search needs
@@ -44,7 +44,7 @@ returns-2 c =
     let r = i .before .before .before .before in
     let t = r .before .before .before .two-numbers in
     let g = not-false _ (i .if1 .left) in
-    let z = default-made _ _ (t .ensures .1 .1) (sym (r .read-ranks .ensures .0) ∙ g) _ _ _ (t .ensures .0) (t .ensures .1 .0) (c .default-of .ensures) _ (r .before .before .before .before .before .before .pre) in
+    let z = default-made _ _ (t .ensures .1 .1) (sym (r .read-ranks .ensures .0) ∙ g) _ _ _ (t .ensures .0) (t .ensures .1 .0) (c .call-of .ensures) _ (r .before .before .before .before .before .before .pre) in
     (z .0, r .read-ranks .ensures .1 g ∙ z .1)
 
 pub default-line-spec : {M : Type 1} → statement M
@@ -57,6 +57,6 @@ default-line-spec =
     clear-requires
     same-length
     returns
-    default-of-requires
+    call-of-requires
     same-length-2
     returns-2)

@@ -12,14 +12,14 @@ slice-aggregate-same c = search needs
 same-requires : tie.Need-same-requires
 same-requires c κs = search needs
 
-payment-line-requires : tie.Need-payment-line-requires
-payment-line-requires c κs = search needs
+pair-line-requires : tie.Need-pair-line-requires
+pair-line-requires c κs = search needs
 
 returns : tie.Need-returns
 unfolding otherLine
 returns c =
     let i1 = c .before in
-    check-true _ _ _ (sym (i1 .before .same .ensures) ∙ i1 .if1 .taken) (c .payment-line .ensures)
+    check-true _ _ _ (sym (i1 .before .same .ensures) ∙ i1 .if1 .taken) (c .pair-line .ensures)
 
 slice-aggregate-same-2 : tie.Need-slice-aggregate-same-2
 slice-aggregate-same-2 c = search needs
@@ -27,8 +27,8 @@ slice-aggregate-same-2 c = search needs
 same-requires-2 : tie.Need-same-requires-2
 same-requires-2 c κs = search needs
 
-replenishment-line-requires : tie.Need-replenishment-line-requires
-replenishment-line-requires c κs = search needs
+pair-line-requires-2 : tie.Need-pair-line-requires-2
+pair-line-requires-2 c κs = search needs
 
 returns-2 : tie.Need-returns-2
 unfolding otherLine
@@ -36,7 +36,7 @@ returns-2 c =
     let i2 = c .before in
     let i1 = i2 .before .before .before in
     check-false _ _ _ (sym (i1 .before .same .ensures) ∙ i1 .if1 .left)
-    (check-true _ _ _ (sym (i2 .before .same2 .ensures) ∙ i2 .if2 .taken) (c .replenishment-line .ensures))
+    (check-true _ _ _ (sym (i2 .before .same2 .ensures) ∙ i2 .if2 .taken) (c .pair-line2 .ensures))
 
 slice-aggregate-same-3 : tie.Need-slice-aggregate-same-3
 slice-aggregate-same-3 c = search needs
@@ -44,8 +44,8 @@ slice-aggregate-same-3 c = search needs
 same-requires-3 : tie.Need-same-requires-3
 same-requires-3 c κs = search needs
 
-close-line-requires : tie.Need-close-line-requires
-close-line-requires c κs = search needs
+alone-requires : tie.Need-alone-requires
+alone-requires c κs = search needs
 
 returns-3 : tie.Need-returns-3
 unfolding otherLine
@@ -55,7 +55,7 @@ returns-3 c =
     let i1 = i2 .before .before .before in
     check-false _ _ _ (sym (i1 .before .same .ensures) ∙ i1 .if1 .left)
     (check-false _ _ _ (sym (i2 .before .same2 .ensures) ∙ i2 .if2 .left)
-    (check-true _ _ _ (sym (i3 .before .same3 .ensures) ∙ i3 .if3 .taken) (c .close-line .ensures)))
+    (check-true _ _ _ (sym (i3 .before .same3 .ensures) ∙ i3 .if3 .taken) (c .alone .ensures)))
 
 slice-aggregate-same-4 : tie.Need-slice-aggregate-same-4
 slice-aggregate-same-4 c = search needs
@@ -63,8 +63,8 @@ slice-aggregate-same-4 c = search needs
 same-requires-4 : tie.Need-same-requires-4
 same-requires-4 c κs = search needs
 
-register-line-requires : tie.Need-register-line-requires
-register-line-requires c κs = search needs
+alone-requires-2 : tie.Need-alone-requires-2
+alone-requires-2 c κs = search needs
 
 returns-4 : tie.Need-returns-4
 unfolding otherLine
@@ -76,7 +76,7 @@ returns-4 c =
     check-false _ _ _ (sym (i1 .before .same .ensures) ∙ i1 .if1 .left)
     (check-false _ _ _ (sym (i2 .before .same2 .ensures) ∙ i2 .if2 .left)
     (check-false _ _ _ (sym (i3 .before .same3 .ensures) ∙ i3 .if3 .left)
-    (check-true _ _ _ (sym (i4 .before .same4 .ensures) ∙ i4 .if4 .taken) (c .register-line .ensures))))
+    (check-true _ _ _ (sym (i4 .before .same4 .ensures) ∙ i4 .if4 .taken) (c .alone2 .ensures))))
 
 returns-5 : tie.Need-returns-5
 unfolding otherLine
@@ -88,7 +88,7 @@ returns-5 c =
     check-false _ _ _ (sym (i1 .before .same .ensures) ∙ i1 .if1 .left)
     (check-false _ _ _ (sym (i2 .before .same2 .ensures) ∙ i2 .if2 .left)
     (check-false _ _ _ (sym (i3 .before .same3 .ensures) ∙ i3 .if3 .left)
-    (check-false _ _ _ (sym (i4 .before .same4 .ensures) ∙ i4 .if4 .left) (refl))))
+    (check-false _ _ _ (sym (i4 .before .same4 .ensures) ∙ i4 .if4 .left) refl)))
 
 pub other-line-spec : {M : Type 1} → statement M
 other-line-spec =
@@ -96,18 +96,18 @@ other-line-spec =
     (tie.spec
     slice-aggregate-same
     same-requires
-    payment-line-requires
+    pair-line-requires
     returns
     slice-aggregate-same-2
     same-requires-2
-    replenishment-line-requires
+    pair-line-requires-2
     returns-2
     slice-aggregate-same-3
     same-requires-3
-    close-line-requires
+    alone-requires
     returns-3
     slice-aggregate-same-4
     same-requires-4
-    register-line-requires
+    alone-requires-2
     returns-4
     returns-5)

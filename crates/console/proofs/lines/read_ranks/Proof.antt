@@ -64,12 +64,8 @@ returns-2 c =
 
 loop-less : tie.Need-loop-less Inv-loop μ-loop
 loop-less c =
-    let t = c .before .before .before .before .before in
-    let p = t .before .before .before in
-    let e = p .before in
+    let e = c .before .before .before .before .before .before .before .before .before in
     let w = e .before in
-    let l = w .before .loop in
-    let ws = wordsOf (drop (l .at) (w .before .before .before .before .before .args .line .now)) in
     omega (arith, word-ends _ _ _ (w .next-word .ensures .0) (e .if1 .left) (w .next-word .ensures .1 .0) (w .next-word .ensures .1 .1))
 
 loop-again : tie.Need-loop-again Inv-loop μ-loop

@@ -1,6 +1,6 @@
 -- `put_members` meets its contract. The invariant: the lines of the members so far are in the buffer.
 use Prim.Native.Nat.{_+_, _-_, _*_, _≤_}
-use mathlib.Core.Path.{_≡_, refl, ap}
+use mathlib.Core.Path.{_≡_, ap}
 use native.Mathlib.Omega.{arith}
 use lib.ListN.{length}
 use Rattle.console.proofs.Putting.{Put, put-as, put-none, put-on}

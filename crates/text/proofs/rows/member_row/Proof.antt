@@ -1,66 +1,59 @@
--- `member_row` meets its contract: each way out is one case of the definition.
+-- `member_row` meets its contract: a row is bad where one of its fields is.
+use mathlib.Core.Path.{refl, _∙_}
+use Rattle.lists.proofs.Checks.{check-true, check-false}
+use Rattle.text.proofs.Cutting.{member-fields}
 use borrow.Author.Needs.{needs}
 use Rattle.text.proofs.rows.member_row.Statement.{statement}
 use Rattle.text.proofs.rows.member_row.Tie as tie
 
-enum-known-member : tie.Need-enum-known-member
-enum-known-member c = search needs
+is-bad-requires : tie.Need-is-bad-requires
+is-bad-requires c κs = search needs
 
-enum-told : tie.Need-enum-told
-enum-told c = search needs
+is-bad-requires-2 : tie.Need-is-bad-requires-2
+is-bad-requires-2 c κs = search needs
+
+is-bad-requires-3 : tie.Need-is-bad-requires-3
+is-bad-requires-3 c κs = search needs
+
+is-bad-requires-4 : tie.Need-is-bad-requires-4
+is-bad-requires-4 c κs = search needs
 
 returns : tie.Need-returns
-returns c = search needs
+returns c =
+    let t = c .before in
+    let g = t .before .before .before .before .args in
+    check-true _ _ _ (rw (t .before .before .before .is-bad .ensures, t .before .before .is-bad2 .ensures, t .before .is-bad3 .ensures, t .is-bad4 .ensures) at (c .if1 .taken)) refl ∙ member-fields (g .member) (g .first) (g .second) (g .third)
 
-enum-known-first : tie.Need-enum-known-first
-enum-known-first c = search needs
+value-requires : tie.Need-value-requires
+value-requires c κs = search needs
 
-enum-told-2 : tie.Need-enum-told-2
-enum-told-2 c = search needs
+value-requires-2 : tie.Need-value-requires-2
+value-requires-2 c κs = search needs
+
+value-requires-3 : tie.Need-value-requires-3
+value-requires-3 c κs = search needs
+
+value-requires-4 : tie.Need-value-requires-4
+value-requires-4 c κs = search needs
 
 returns-2 : tie.Need-returns-2
-returns-2 c = search needs
-
-enum-known-second : tie.Need-enum-known-second
-enum-known-second c = search needs
-
-enum-told-3 : tie.Need-enum-told-3
-enum-told-3 c = search needs
-
-returns-3 : tie.Need-returns-3
-returns-3 c = search needs
-
-enum-known-third : tie.Need-enum-known-third
-enum-known-third c = search needs
-
-enum-told-4 : tie.Need-enum-told-4
-enum-told-4 c = search needs
-
-returns-4 : tie.Need-returns-4
-returns-4 c = search needs
-
-returns-5 : tie.Need-returns-5
-returns-5 c =
-    let e₄ = c .before in
-    let e₃ = e₄ .before .before .before in
-    let e₂ = e₃ .before .before .before in
-    let e₁ = e₂ .before .before .before in
-    rw (e₁ .member .given .1, e₂ .first .given .1, e₃ .second .given .1, e₄ .third .given .1)
+returns-2 c =
+    let i = c .before .before .before .before in
+    let t = i .before in
+    let g = t .before .before .before .before .args in
+    rw (c .before .before .before .value .ensures, c .before .before .value2 .ensures, c .before .value3 .ensures, c .value4 .ensures) (check-false _ _ _ (rw (t .before .before .before .is-bad .ensures, t .before .before .is-bad2 .ensures, t .before .is-bad3 .ensures, t .is-bad4 .ensures) at (i .if1 .left)) refl ∙ member-fields (g .member) (g .first) (g .second) (g .third))
 
 pub member-row-spec : {M : Type 1} → statement M
 member-row-spec =
     tie.close
     (tie.spec
-    enum-known-member
-    enum-told
+    is-bad-requires
+    is-bad-requires-2
+    is-bad-requires-3
+    is-bad-requires-4
     returns
-    enum-known-first
-    enum-told-2
-    returns-2
-    enum-known-second
-    enum-told-3
-    returns-3
-    enum-known-third
-    enum-told-4
-    returns-4
-    returns-5)
+    value-requires
+    value-requires-2
+    value-requires-3
+    value-requires-4
+    returns-2)

@@ -1,88 +1,67 @@
--- `stress_row` meets its contract: each way out is one case of the definition.
+-- `stress_row` meets its contract: a row is bad where one of its fields is.
+use mathlib.Core.Path.{refl, _∙_}
+use Rattle.lists.proofs.Checks.{check-true, check-false}
+use Rattle.text.proofs.Cutting.{stress-fields}
 use borrow.Author.Needs.{needs}
 use Rattle.text.proofs.rows.stress_row.Statement.{statement}
 use Rattle.text.proofs.rows.stress_row.Tie as tie
 
-enum-known-day : tie.Need-enum-known-day
-enum-known-day c = search needs
+is-bad-requires : tie.Need-is-bad-requires
+is-bad-requires c κs = search needs
 
-enum-told : tie.Need-enum-told
-enum-told c = search needs
+is-bad-requires-2 : tie.Need-is-bad-requires-2
+is-bad-requires-2 c κs = search needs
+
+is-bad-requires-3 : tie.Need-is-bad-requires-3
+is-bad-requires-3 c κs = search needs
+
+is-bad-requires-4 : tie.Need-is-bad-requires-4
+is-bad-requires-4 c κs = search needs
+
+is-bad-requires-5 : tie.Need-is-bad-requires-5
+is-bad-requires-5 c κs = search needs
 
 returns : tie.Need-returns
-returns c = search needs
+returns c =
+    let t = c .before in
+    let g = t .before .before .before .before .before .args in
+    check-true _ _ _ (rw (t .before .before .before .before .is-bad .ensures, t .before .before .before .is-bad2 .ensures, t .before .before .is-bad3 .ensures, t .before .is-bad4 .ensures, t .is-bad5 .ensures) at (c .if1 .taken)) refl ∙ stress-fields (g .day) (g .scenario) (g .member) (g .weak) (g .loss)
 
-enum-known-scenario : tie.Need-enum-known-scenario
-enum-known-scenario c = search needs
+value-requires : tie.Need-value-requires
+value-requires c κs = search needs
 
-enum-told-2 : tie.Need-enum-told-2
-enum-told-2 c = search needs
+value-requires-2 : tie.Need-value-requires-2
+value-requires-2 c κs = search needs
+
+value-requires-3 : tie.Need-value-requires-3
+value-requires-3 c κs = search needs
+
+value-requires-4 : tie.Need-value-requires-4
+value-requires-4 c κs = search needs
+
+value-requires-5 : tie.Need-value-requires-5
+value-requires-5 c κs = search needs
 
 returns-2 : tie.Need-returns-2
-returns-2 c = search needs
-
-enum-known-member : tie.Need-enum-known-member
-enum-known-member c = search needs
-
-enum-told-3 : tie.Need-enum-told-3
-enum-told-3 c = search needs
-
-returns-3 : tie.Need-returns-3
-returns-3 c = search needs
-
-enum-known-weak : tie.Need-enum-known-weak
-enum-known-weak c = search needs
-
-enum-told-4 : tie.Need-enum-told-4
-enum-told-4 c = search needs
-
-returns-4 : tie.Need-returns-4
-returns-4 c =
-    let e₃ = c .before .before .before in
-    let e₂ = e₃ .before .before .before in
-    let e₁ = e₂ .before .before .before in
-    rw (e₁ .day .given .1, e₂ .scenario .given .1, e₃ .member .given .1, c .enum-told4 .given .1)
-
-enum-known-loss : tie.Need-enum-known-loss
-enum-known-loss c = search needs
-
-enum-told-5 : tie.Need-enum-told-5
-enum-told-5 c = search needs
-
-returns-5 : tie.Need-returns-5
-returns-5 c =
-    let e₄ = c .before .before .before in
-    let e₃ = e₄ .before .before .before in
-    let e₂ = e₃ .before .before .before in
-    let e₁ = e₂ .before .before .before in
-    rw (e₁ .day .given .1, e₂ .scenario .given .1, e₃ .member .given .1, e₄ .weak .given .1, c .enum-told5 .given .1)
-
-returns-6 : tie.Need-returns-6
-returns-6 c =
-    let e₅ = c .before in
-    let e₄ = e₅ .before .before .before in
-    let e₃ = e₄ .before .before .before in
-    let e₂ = e₃ .before .before .before in
-    let e₁ = e₂ .before .before .before in
-    rw (e₁ .day .given .1, e₂ .scenario .given .1, e₃ .member .given .1, e₄ .weak .given .1, e₅ .loss .given .1)
+returns-2 c =
+    let i = c .before .before .before .before .before in
+    let t = i .before in
+    let g = t .before .before .before .before .before .args in
+    rw (c .before .before .before .before .value .ensures, c .before .before .before .value2 .ensures, c .before .before .value3 .ensures, c .before .value4 .ensures, c .value5 .ensures) (check-false _ _ _ (rw (t .before .before .before .before .is-bad .ensures, t .before .before .before .is-bad2 .ensures, t .before .before .is-bad3 .ensures, t .before .is-bad4 .ensures, t .is-bad5 .ensures) at (i .if1 .left)) refl ∙ stress-fields (g .day) (g .scenario) (g .member) (g .weak) (g .loss))
 
 pub stress-row-spec : {M : Type 1} → statement M
 stress-row-spec =
     tie.close
     (tie.spec
-    enum-known-day
-    enum-told
+    is-bad-requires
+    is-bad-requires-2
+    is-bad-requires-3
+    is-bad-requires-4
+    is-bad-requires-5
     returns
-    enum-known-scenario
-    enum-told-2
-    returns-2
-    enum-known-member
-    enum-told-3
-    returns-3
-    enum-known-weak
-    enum-told-4
-    returns-4
-    enum-known-loss
-    enum-told-5
-    returns-5
-    returns-6)
+    value-requires
+    value-requires-2
+    value-requires-3
+    value-requires-4
+    value-requires-5
+    returns-2)

@@ -1,11 +1,11 @@
--- `close_line` meets its contract.
+-- `alone` meets its contract.
 use mathlib.Core.Path.{refl, sym, _∙_}
 use borrow.Author.Tests.{not-true, not-false}
 use Rattle.lists.proofs.Checks.{check-true, check-false}
 use Rattle.console.specs.Lines.{alone}
 use borrow.Author.Needs.{needs}
-use Rattle.console.proofs.lines.close_line.Statement.{statement}
-use Rattle.console.proofs.lines.close_line.Tie as tie
+use Rattle.console.proofs.lines.alone.Statement.{statement}
+use Rattle.console.proofs.lines.alone.Tie as tie
 
 ends-requires : tie.Need-ends-requires
 ends-requires c κs = search needs
@@ -18,5 +18,5 @@ returns-2 : tie.Need-returns-2
 unfolding alone
 returns-2 c = check-true _ _ _ (sym (c .before .ends .ensures) ∙ not-false _ (c .if1 .left)) refl
 
-pub close-line-spec : {M : Type 1} → statement M
-close-line-spec = tie.close (tie.spec ends-requires returns returns-2)
+pub alone-spec : {M : Type 1} → statement M
+alone-spec = tie.close (tie.spec ends-requires returns returns-2)

@@ -274,6 +274,7 @@ pub fn declare(
             register,
         };
     }
+    // The six layers, which change nothing yet: 19 may still refuse the default.
     let at = (member - 1) as usize;
     let fallen = register.outstanding[at];
     let first = layer(loss + fallen, register.margin[at]);
@@ -289,6 +290,7 @@ pub fn declare(
             register,
         };
     }
+    // "Each charge leaves its pocket", and the defaulter is in default for good.
     write(slip, 0, &fourth.charges);
     write(slip, 64, &sixth.calls);
     register.status[at] = 2;

@@ -11,9 +11,10 @@ use lib.Dec.{eqb, leb, ltb}
 use Rattle.lists.specs.Checks.{check}
 use Rattle.lists.specs.Limits.{memberLimit, amountLimit, dayLimit, scenarioLimit, weakLimit}
 use Rattle.lists.proofs.Checks.{check-true, check-false, check-no, check-not-no, neither, both}
-use Rattle.sheets.specs.Bytes.{byte, le16, le32, le64, missingAmount, absentAmount, beyond, nonzero}
+use Rattle.sheets.specs.Bytes.{byte, le16, le32, missingAmount, absentAmount, beyond, nonzero}
 use Rattle.sheets.specs.Members.{outside}
-use Rattle.sheets.specs.Stress.{dayAt, scenarioAt, stressedAt, weakAt, lossAt, sameBlock, laterBlock, flagsBefore, passed, stressBeyond, stressOutside, stressFaulty, stressRises, sixthWeak, stressOf}
+use Rattle.sheets.specs.Stress.{dayAt, scenarioAt, stressedAt, weakAt, lossAt, sameBlock, flagsBefore, passed, stressOutside, stressRises, sixthWeak, stressOf}
+use Rattle.sheets.specs.Parts.{le64, stressBeyond, stressFaulty, laterBlock}
 use Rattle.sheets.specs.declared.Before.{Before}
 use Rattle.sheets.specs.declared.Stress.{Stress}
 use Rattle.sheets.specs.declared.Stress.the-variants.{Excessive, NotRising, SixthWeak, Loss}

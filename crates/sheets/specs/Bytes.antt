@@ -19,10 +19,6 @@ le16 s at = byte s at + byte s (at + 1) * 256
 unfoldable pub le32 : List ℕ → ℕ → ℕ
 le32 s at = byte s at + byte s (at + 1) * 256 + byte s (at + 2) * 65_536 + byte s (at + 3) * 16_777_216
 
--- one of eight bytes: no sheet has one, but some tests are made on eight bytes at once
-unfoldable pub le64 : List ℕ → ℕ → ℕ
-le64 s at = le32 s at + le32 s (at + 4) * 4_294_967_296
-
 -- "Hexadecimal FFFFFFFF means missing."
 abbrev pub missingAmount : ℕ
 missingAmount = 0xffffffff

@@ -3,3 +3,4 @@ pub mod Bytes
 pub mod Members
 pub mod Stress
 pub mod Sheet
+pub mod Parts

@@ -55,15 +55,6 @@ stressOutside s =
     || nonzero (byte s 6) || nonzero (byte s 7)
     || nonzero (byte s 12) || nonzero (byte s 13) || nonzero (byte s 14) || nonzero (byte s 15)
 
--- 4 but for the zero bytes
-abbrev pub stressBeyond : List ℕ → Bool
-stressBeyond s =
-    beyond 1 dayLimit (dayAt s) || beyond 1 scenarioLimit (scenarioAt s) || beyond 1 memberLimit (stressedAt s) || beyond 0 1 (weakAt s)
-
--- whether one of 4, 5 and 6 refuses a record
-unfoldable pub stressFaulty : List ℕ → Bool
-stressFaulty s = stressOutside s || absentAmount (lossAt s) || ltb amountLimit (lossAt s)
-
 -- 7. "A record does not rise above the one before.": "Day, scenario, member strictly rise as a triple."
 unfoldable pub stressRises : Before → List ℕ → Bool
 stressRises before s =
@@ -72,11 +63,6 @@ stressRises before s =
     && (ltb (before .scenario) (scenarioAt s)
     || (eqb (scenarioAt s) (before .scenario)
     && ltb (before .member) (stressedAt s))))
-
--- whether a record's block is later than that of the record before
-abbrev pub laterBlock : Before → List ℕ → Bool
-laterBlock before s =
-    ltb (before .day) (dayAt s) || (eqb (dayAt s) (before .day) && ltb (before .scenario) (scenarioAt s))
 
 -- 8. "A record carries the sixth weak flag of its block."
 abbrev pub sixthWeak : Before → List ℕ → Bool

@@ -3,7 +3,8 @@
 ghost use mathlib.Core.Path.{_≡_};
 ghost use Prim.Native.Nat.{_+_, _≤_, _<_};
 ghost use lib.ListN.{length};
-ghost use Rattle.sheets.specs.Bytes.{byte, le16, le32, le64, absentAmount, beyond, nonzero};
+ghost use Rattle.sheets.specs.Bytes.{byte, le16, le32, absentAmount, beyond, nonzero};
+ghost use Rattle.sheets.specs.Parts.{le64};
 
 // "Hexadecimal FFFFFFFF means missing."
 const MISSING_AMOUNT: u64 = 0xffff_ffff;

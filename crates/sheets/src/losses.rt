@@ -20,7 +20,8 @@ ghost use Prim.Native.Nat.{_+_, _≤_};
 ghost use lib.ListN.{length};
 ghost use Rattle.lists.specs.Limits.{weakLimit};
 ghost use Rattle.sheets.specs.Bytes.{absentAmount};
-ghost use Rattle.sheets.specs.Stress.{lossAt, weakAt, sameBlock, laterBlock, flagsBefore, passed, stressBeyond, stressOutside, stressFaulty, stressRises, stressOf, stressNumber};
+ghost use Rattle.sheets.specs.Stress.{lossAt, weakAt, sameBlock, flagsBefore, passed, stressOutside, stressRises, stressOf, stressNumber};
+ghost use Rattle.sheets.specs.Parts.{laterBlock, stressBeyond, stressFaulty};
 
 // Whether day, scenario, member and flag are within their values.
 fn valued(s: &[u8]) -> bool

@@ -1,6 +1,6 @@
 -- `sheets::bytes::le64` meets its contract.
 use borrow.Author.Needs.{needs}
-use Rattle.sheets.specs.Bytes.{le64}
+use Rattle.sheets.specs.Parts.{le64}
 use Rattle.sheets.proofs.bytes.le64.Statement.{statement}
 use Rattle.sheets.proofs.bytes.le64.Tie as tie
 

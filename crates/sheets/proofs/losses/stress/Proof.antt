@@ -3,7 +3,8 @@ use mathlib.Core.Path.{_≡_, refl}
 use mathlib.Core.Bool.{false}
 use lib.Dec.{ltb}
 use borrow.Author.Needs.{needs}
-use Rattle.sheets.specs.Stress.{weakAt, lossAt, passed, stressFaulty, stressOf}
+use Rattle.sheets.specs.Stress.{weakAt, lossAt, passed, stressOf}
+use Rattle.sheets.specs.Parts.{stressFaulty}
 use Rattle.sheets.specs.declared.Stress.{Stress}
 use Rattle.sheets.specs.declared.Stress.the-variants.{SixthWeak, Loss}
 use Rattle.lists.specs.Checks.{check}

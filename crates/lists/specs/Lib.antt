@@ -2,3 +2,4 @@
 pub mod Limits
 pub mod Sums
 pub mod Checks
+pub mod Texts

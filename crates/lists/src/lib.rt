@@ -1,1 +1,27 @@
-// Definitions and laws on lists of numbers, in specs/ and proofs/: this crate has no code.
+// The limits of document 01 as the code names them. The contracts name them by specs/Limits, so a number that differs is refused.
+// Money is whole thousands of rupees.
+
+// "Members are numbered 1 to 64."
+pub const MEMBER_LIMIT: usize = 64;
+
+// "1 is most senior, 64 most junior"
+pub const RANK_LIMIT: u8 = 64;
+
+// "An amount is 0 to 400,000,000"
+pub const AMOUNT_LIMIT: u64 = 400_000_000;
+
+// "a sum handed alone (..) is 0 to 25,600,000,000"
+pub const SUM_LIMIT: u64 = 25_600_000_000;
+
+// "contribution (at least 10,000: one crore, ..)"; the least requirement
+pub const CONTRIBUTION_FLOOR: u64 = 10_000;
+
+// "a stress sheet has 1 to 4,096 records: bytes 0-1 day (1 to 184), 2-3 scenario (1 to 64)"
+pub const STRESS_LIMIT: usize = 4_096;
+
+pub const DAY_LIMIT: u64 = 184;
+
+pub const SCENARIO_LIMIT: u64 = 64;
+
+// the weak flags that a block may have: the sixth is refused
+pub const WEAK_LIMIT: u64 = 5;

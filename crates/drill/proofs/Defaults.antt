@@ -6,28 +6,29 @@ use mathlib.Core.List.{List, _++_, append-assoc}
 use native.Mathlib.Omega.{arith}
 use borrow.Author.Tests.{ltb-true, eqb-false}
 use lib.Dec.{ltb}
-use lib.ListN.{take, drop}
+use lib.ListN.{length, take, drop}
 use lib.Seq.{take-at, drop-at}
 use Rattle.lists.specs.Checks.{check}
 use Rattle.lists.specs.Limits.{memberLimit}
 use Rattle.lists.proofs.Checks.{no-refusal}
-use Rattle.waterfall.specs.Register.{inDefault, figure, replace, GivenBack}
-use Rattle.waterfall.specs.Reply.{refuse}
-use Rattle.waterfall.specs.Default.{fallenCall, onMargin, onOwnFund, charges, calls, after1, after2, after3, after4, after5, allocationOf, settledOf, defaultRefusal, defaultOf, defaultSlip}
+use Rattle.figures.specs.Figures.{inDefault, figure, replace}
+use Rattle.waterfall.specs.Register.{GivenBack}
+use Rattle.waterfall.specs.Reply.{judged}
+use Rattle.waterfall.specs.Default.{fallenCall, onMargin, onContribution, charges, calls, after1, after2, after3, after4, after5, allocationOf, settledOf, defaultRefusal, defaultOf, defaultSlip}
 use Rattle.waterfall.specs.declared.Register.{Register}
-use Rattle.waterfall.specs.declared.Reply.the-variants.{Allocated}
-use Rattle.waterfall.proofs.Admitted.{Admitted, admitted}
-use Rattle.waterfall.proofs.Default.{placed, margin-gives, own-gives, tranche1-gives, tranche2-gives, charges-within, left2, left3, left4, left5, left6}
-use Rattle.waterfall.proofs.Figures.{figure-same, figure-other, replaced, figure-plus, figure-le, by-member}
+use Rattle.waterfall.specs.declared.Reply.the-variants.{Refused, Allocated}
+use Rattle.admission.proofs.Admitted.{Admitted, admitted}
+use Rattle.waterfall.proofs.Default.{placed, margin-gives, contribution-gives, tranche1-gives, tranche2-gives, charges-within, left2, left3, left4, left5, left6}
+use Rattle.figures.proofs.Figures.{figure-same, figure-other, replaced, figure-plus, figure-le, by-member}
 use Rattle.waterfall.proofs.Given.{given-settled, length-calls, length-charged}
-use Rattle.waterfall.proofs.Order.{defaulter-known, settled-own, settled-other, defaulter-uncharged, empty1, empty2, empty3, empty4, empty5, empty6, by-rank}
+use Rattle.waterfall.proofs.Order.{defaulter-known, settled-contribution, settled-other, defaulter-uncharged, empty1, empty2, empty3, empty4, empty5, empty6, by-rank}
 use Rattle.drill.specs.Drill.{Event}
 use Rattle.drill.specs.declared.DrillCall.the-variants.{Default}
 use Rattle.drill.proofs.Laws.{StepLaws, Ordered}
 use Rattle.drill.proofs.Calls.{seen, refused-laws}
 
 -- an accepted default
-module _ (r : Register) (g : GivenBack r) (member loss : ℕ) (ranks slip : List ℕ) (a : Admitted r member loss ranks slip) where
+module _ (r : Register) (g : GivenBack r) (member loss : ℕ) (ranks slip : List ℕ) (a : Admitted (r .status) member loss ranks (length slip)) where
   charged : List ℕ
   charged = charges r member loss ranks
 
@@ -75,10 +76,10 @@ module _ (r : Register) (g : GivenBack r) (member loss : ℕ) (ranks slip : List
   abbrev e2 : 0 < after2 r member loss → figure (settledOf r member loss ranks .contribution) member ≡ 0
   e2 = empty2 r g member loss ranks slip a
 
-  abbrev e3 : 0 < after3 r member loss → settledOf r member loss ranks .first ≡ 0
+  abbrev e3 : 0 < after3 r member loss → settledOf r member loss ranks .tranche1 ≡ 0
   e3 = empty3 r g member loss ranks slip a
 
-  abbrev e5 : 0 < after5 r member loss ranks → settledOf r member loss ranks .second ≡ 0
+  abbrev e5 : 0 < after5 r member loss ranks → settledOf r member loss ranks .tranche2 ≡ 0
   e5 = empty5 r g member loss ranks slip a
 
   allocated-ordered : Ordered r event member
@@ -119,13 +120,13 @@ module _ (r : Register) (g : GivenBack r) (member loss : ℕ) (ranks slip : List
             replaced (λ b old new. old ≡ new + cond b (onMargin r member loss) 0) (r .margin) member m _ (k .0) (omega (arith, k, g .margin-length))
             (omega (arith, margin-gives r member loss ranks)) (λ y. omega arith);
         contribution = λ m.
-            by-member (λ b. figure (r .contribution) m + 0 ≡ figure (settledOf r member loss ranks .contribution) m + cond b (onOwnFund r member loss) 0 + figure (take memberLimit left) m) member m
+            by-member (λ b. figure (r .contribution) m + 0 ≡ figure (settledOf r member loss ranks .contribution) m + cond b (onContribution r member loss) 0 + figure (take memberLimit left) m) member m
             (λ e.
             omega (
               arith,
               charge m,
-              own-gives r member loss ranks,
-              settled-own r g member loss ranks slip a,
+              contribution-gives r member loss ranks,
+              settled-contribution r g member loss ranks slip a,
               defaulter-uncharged r g member loss ranks slip a,
               ap (figure (r .contribution)) e,
               ap (figure (settledOf r member loss ranks .contribution)) e,
@@ -159,15 +160,20 @@ module _ (r : Register) (g : GivenBack r) (member loss : ℕ) (ranks slip : List
             ));
         called = λ m. omega (arith, call m, figure-plus (r .called) (calls r member loss ranks) m);
         stays-live = λ m s q. figure-other (r .status) member m inDefault (k .0) (eqb-false member m q) ∙ s;
+        stays-in-default = λ m s. replaced (λ b old new. old ≡ inDefault → new ≡ inDefault) (r .status) member m inDefault (k .0) (omega (arith, k, g .status-length)) (λ _. refl) (λ y e. e) s;
         ordered = λ m l q t. rw (named q) allocated-ordered;
       }
     where
       named : {m l : ℕ} → Default member loss ≡ Default m l → m ≡ member
       named q = cc
 
+admitted-by : (r : Register) (member loss : ℕ) (ranks slip : List ℕ) → defaultRefusal r member loss ranks slip ≡ 0 → Admitted (r .status) member loss ranks (length slip)
+unfolding defaultRefusal
+admitted-by r member loss ranks slip z = admitted (r .status) member loss ranks (length slip) _ z
+
 pub default-laws : (r : Register) → GivenBack r → (member loss : ℕ) (ranks slip : List ℕ)
     → StepLaws r (seen (Default member loss) ranks (defaultOf r member loss ranks slip) (defaultSlip r member loss ranks slip))
-unfolding defaultOf defaultSlip check event left charged calling
+unfolding defaultOf defaultSlip judged check event left charged calling
 default-laws r g member loss ranks slip = go (ltb 0 (defaultRefusal r member loss ranks slip)) refl
   where
     refusal : ℕ
@@ -175,7 +181,7 @@ default-laws r g member loss ranks slip = go (ltb 0 (defaultRefusal r member los
 
     go : (t : Bool) → ltb 0 refusal ≡ t
         → StepLaws r (seen (Default member loss) ranks
-        (check t (refuse refusal r) (record { reply = Allocated (allocationOf r member loss ranks); register = settledOf r member loss ranks }))
+        (check t (record { reply = Refused refusal; register = r }) (record { reply = Allocated (allocationOf r member loss ranks); register = settledOf r member loss ranks }))
         (check t slip (charges r member loss ranks ++ calls r member loss ranks ++ drop (memberLimit + memberLimit) slip)))
     go true e = refused-laws r g (Default member loss) ranks slip refusal (ltb-true 0 refusal e)
-    go false e = allocated-laws r g member loss ranks slip (admitted r member loss ranks slip (no-refusal refusal e))
+    go false e = allocated-laws r g member loss ranks slip (admitted-by r member loss ranks slip (no-refusal refusal e))

@@ -2,7 +2,8 @@
 use Prim.Native.Nat.{ℕ, _+_}
 use mathlib.Core.Path.{_≡_}
 use mathlib.Core.Bool.{true, false, cond, _&&_}
-use Rattle.waterfall.specs.Register.{live, figure, GivenBack}
+use Rattle.figures.specs.Figures.{live, inDefault, figure}
+use Rattle.waterfall.specs.Register.{GivenBack}
 use Rattle.waterfall.specs.Reply.{layer1, layer2, layer3, layer4, layer5, layer6}
 use Rattle.waterfall.specs.declared.Register.{Register}
 use Rattle.drill.specs.Drill.{Event}
@@ -40,9 +41,10 @@ pub record StepLaws (r : Register) (e : Event) : Type 0 where
   pub placed : layerIn layer1 e + layerIn layer2 e + layerIn layer3 e + layerIn layer4 e + layerIn layer5 e + layerIn layer6 e + shortIn e ≡ lossIn e + fallenIn e
   pub margin : (m : ℕ) → figure (r .margin) m ≡ figure (e .register .margin) m + layerBy layer1 m e
   pub contribution : (m : ℕ) → figure (r .contribution) m + replenishedBy m e ≡ figure (e .register .contribution) m + layerBy layer2 m e + chargeOn m e
-  pub tranche1 : r .first ≡ e .register .first + layerIn layer3 e
-  pub tranche2 : r .second ≡ e .register .second + layerIn layer5 e
+  pub tranche1 : r .tranche1 ≡ e .register .tranche1 + layerIn layer3 e
+  pub tranche2 : r .tranche2 ≡ e .register .tranche2 + layerIn layer5 e
   pub calls : (m : ℕ) → callOn m e + figure (r .outstanding) m ≡ paidBy m e + figure (e .register .outstanding) m + fallenBy m e
   pub called : (m : ℕ) → figure (e .register .called) m ≡ cond (accepted e && isClose (e .call)) 0 (figure (r .called) m + callOn m e)
   pub stays-live : (m : ℕ) → figure (r .status) m ≡ live → (accepted e && defaults (e .call) m) ≡ false → figure (e .register .status) m ≡ live
+  pub stays-in-default : (m : ℕ) → figure (r .status) m ≡ inDefault → figure (e .register .status) m ≡ inDefault
   pub ordered : (m loss : ℕ) → e .call ≡ Default m loss → accepted e ≡ true → Ordered r e m

@@ -14,11 +14,12 @@ use Rattle.sheets.specs.Bytes.{recordAt}
 use Rattle.sheets.specs.Members.{memberAt, firstAt, secondAt, thirdAt}
 use Rattle.sheets.specs.Sheet.{accepted, recordCount, memberRefusalFrom, memberRefusal}
 use Rattle.sheets.proofs.Accepted.{record-in-order, rest-accepted}
-use Rattle.waterfall.specs.Register.{live, figure, replace, none, emptyRegister}
-use Rattle.waterfall.specs.Opening.{firstTranche, secondTranche, enteredOf, enteredFrom, unentered, openingRegister, openingRefusal, openedOf}
+use Rattle.figures.specs.Figures.{live, figure, replace, none}
+use Rattle.waterfall.specs.Register.{emptyRegister}
+use Rattle.waterfall.specs.Opening.{tranche1Of, tranche2Of, enteredOf, enteredFrom, unentered, openingRegister, openingRefusal, openedOf}
 use Rattle.waterfall.specs.declared.Register.{Register}
-use Rattle.waterfall.proofs.Figures.{figure-other, replaced, figure-none, figure-bound}
-use Rattle.waterfall.proofs.Opening.{accepts}
+use Rattle.figures.proofs.Figures.{figure-other, replaced, figure-none, figure-bound}
+use Rattle.waterfall.proofs.Entered.{accepts}
 use Rattle.drill.specs.Counting.{openingAccepted, figuresFrom, inSheet, named, openingSum, openingMargin, openingContribution, sheetCap, openingTranche1, openingTranche2}
 
 -- a list of figures with those of n records put in, from record i on
@@ -36,7 +37,7 @@ entered-list list f h (suc n) sheet i r =
     entered-list list f h n sheet (i + 1) (enteredOf r s) ∙ ap (put f n sheet (i + 1)) (h r s)
 
 -- what no record names stays
-entered-rest : (n : ℕ) (sheet : List ℕ) (i : ℕ) (r : Register) → (enteredFrom n sheet i r .outstanding ≡ r .outstanding) × (enteredFrom n sheet i r .called ≡ r .called) × (enteredFrom n sheet i r .first ≡ r .first) × (enteredFrom n sheet i r .second ≡ r .second)
+entered-rest : (n : ℕ) (sheet : List ℕ) (i : ℕ) (r : Register) → (enteredFrom n sheet i r .outstanding ≡ r .outstanding) × (enteredFrom n sheet i r .called ≡ r .called) × (enteredFrom n sheet i r .tranche1 ≡ r .tranche1) × (enteredFrom n sheet i r .tranche2 ≡ r .tranche2)
 unfolding enteredFrom enteredOf
 entered-rest zero sheet i r = (refl, refl, refl, refl)
 entered-rest (suc n) sheet i r = entered-rest n sheet (i + 1) (enteredOf r (recordAt sheet i))
@@ -122,14 +123,14 @@ module _ (sheet : List ℕ) (g : ℕ) (ok : openedOf sheet g .refusal .number �
         figure-bound (put (λ s. live) (recordCount sheet) sheet 0 none) live (put-mark (recordCount sheet) sheet 0 none (λ k. omega (arith, figure-none (suc k)))) m,
       )
 
-  pub rest-opened : (opened .outstanding ≡ none) × (opened .called ≡ none) × (opened .first ≡ firstTranche g) × (opened .second ≡ secondTranche g)
+  pub rest-opened : (opened .outstanding ≡ none) × (opened .called ≡ none) × (opened .tranche1 ≡ tranche1Of g) × (opened .tranche2 ≡ tranche2Of g)
   unfolding openingRegister
   rest-opened =
       let e = entered-rest (recordCount sheet) sheet 0 (unentered g) in (
         ap (λ (r : Register). r .outstanding) is-opening ∙ e .0,
         ap (λ (r : Register). r .called) is-opening ∙ e .1,
-        ap (λ (r : Register). r .first) is-opening ∙ e .2,
-        ap (λ (r : Register). r .second) is-opening ∙ e .3,
+        ap (λ (r : Register). r .tranche1) is-opening ∙ e .2,
+        ap (λ (r : Register). r .tranche2) is-opening ∙ e .3,
       )
 
 -- any opening ------------------------------------------------------------------------------
@@ -139,8 +140,8 @@ pub record Opens (sheet : List ℕ) (g : ℕ) : Type 0 where
   pub margin : (m : ℕ) → figure (openedOf sheet g .register .margin) m ≡ openingMargin sheet g m
   pub contribution : (m : ℕ) → figure (openedOf sheet g .register .contribution) m ≡ openingContribution sheet g m
   pub cap : (m : ℕ) → figure (openedOf sheet g .register .cap) m ≡ sheetCap sheet g m
-  pub tranche1 : openedOf sheet g .register .first ≡ openingTranche1 sheet g
-  pub tranche2 : openedOf sheet g .register .second ≡ openingTranche2 sheet g
+  pub tranche1 : openedOf sheet g .register .tranche1 ≡ openingTranche1 sheet g
+  pub tranche2 : openedOf sheet g .register .tranche2 ≡ openingTranche2 sheet g
   pub outstanding : (m : ℕ) → figure (openedOf sheet g .register .outstanding) m ≡ 0
   pub called : (m : ℕ) → figure (openedOf sheet g .register .called) m ≡ 0
   pub status : (m : ℕ) → openingAccepted sheet g ≡ true → named sheet m ≡ true → figure (openedOf sheet g .register .status) m ≡ live
@@ -177,8 +178,8 @@ opens sheet g = go (openingAccepted sheet g) refl
           margin = λ m. sum _ (inSheet firstAt sheet m) false e (ap (λ (r : Register). figure (r .margin) m) empty ∙ figure-none m);
           contribution = λ m. sum _ (inSheet secondAt sheet m) false e (ap (λ (r : Register). figure (r .contribution) m) empty ∙ figure-none m);
           cap = λ m. sum _ (inSheet thirdAt sheet m) false e (ap (λ (r : Register). figure (r .cap) m) empty ∙ figure-none m);
-          tranche1 = sum _ (firstTranche g) false e (ap (λ (r : Register). r .first) empty);
-          tranche2 = sum _ (secondTranche g) false e (ap (λ (r : Register). r .second) empty);
+          tranche1 = sum _ (tranche1Of g) false e (ap (λ (r : Register). r .tranche1) empty);
+          tranche2 = sum _ (tranche2Of g) false e (ap (λ (r : Register). r .tranche2) empty);
           outstanding = λ m. ap (λ (r : Register). figure (r .outstanding) m) empty ∙ figure-none m;
           called = λ m. ap (λ (r : Register). figure (r .called) m) empty ∙ figure-none m;
           status = λ m a n. absurd (true≢false (sym a ∙ e));

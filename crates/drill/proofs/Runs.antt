@@ -5,7 +5,8 @@ use mathlib.Core.Bool.{false, cond, _&&_}
 use mathlib.Core.List.{List, [], _∷_, _++_}
 use native.Mathlib.Omega.{arith}
 use Rattle.lists.proofs.Checks.{neither}
-use Rattle.waterfall.specs.Register.{live, figure, GivenBack}
+use Rattle.figures.specs.Figures.{live, figure}
+use Rattle.waterfall.specs.Register.{GivenBack}
 use Rattle.waterfall.specs.Reply.{layer1, layer2, layer3, layer4, layer5, layer6}
 use Rattle.waterfall.specs.declared.Register.{Register}
 use Rattle.drill.specs.Drill.{Step, Event, eventOf, appliedOf, slipLeft, trace}
@@ -44,8 +45,8 @@ pub record Totals (r : Register) (events : List Event) : Type 0 where
   pub margins : (m : ℕ) → figure (r .margin) m ≡ figure (lastRegister r events .margin) m + sumOver (layerBy layer1 m) events
   pub contributions : (m : ℕ) → figure (r .contribution) m + sumOver (replenishedBy m) events
       ≡ figure (lastRegister r events .contribution) m + sumOver (layerBy layer2 m) events + sumOver (chargeOn m) events
-  pub tranche1 : r .first ≡ lastRegister r events .first + sumOver (layerIn layer3) events
-  pub tranche2 : r .second ≡ lastRegister r events .second + sumOver (layerIn layer5) events
+  pub tranche1 : r .tranche1 ≡ lastRegister r events .tranche1 + sumOver (layerIn layer3) events
+  pub tranche2 : r .tranche2 ≡ lastRegister r events .tranche2 + sumOver (layerIn layer5) events
   pub calls : (m : ℕ) → sumOver (callOn m) events + figure (r .outstanding) m
       ≡ sumOver (paidBy m) events + figure (lastRegister r events .outstanding) m + sumOver (fallenBy m) events
 

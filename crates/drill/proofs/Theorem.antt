@@ -7,10 +7,10 @@ use native.Mathlib.Omega.{arith}
 use borrow.Author.Tests.{not-true}
 use Rattle.lists.proofs.Checks.{both}
 use Rattle.waterfall.specs.Opening.{openedOf}
-use Rattle.waterfall.specs.Register.{live, figure}
+use Rattle.figures.specs.Figures.{live, figure}
 use Rattle.waterfall.specs.declared.Register.{Register}
-use Rattle.waterfall.proofs.Figures.{figure-le}
-use Rattle.waterfall.proofs.Opening.{given-opened}
+use Rattle.figures.proofs.Figures.{figure-le}
+use Rattle.waterfall.proofs.Entered.{given-opened}
 use Rattle.drill.specs.Drill.{Step, Event, trace}
 use Rattle.drill.specs.Counting.{openingAccepted, named, defaulted, sheetCap, accepted, lastRegister, liveAfter, calledSince}
 use Rattle.drill.specs.Statement.{OtherLive, CalledToCap, InOrder, Statement3}

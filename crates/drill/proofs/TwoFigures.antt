@@ -26,7 +26,7 @@ use denote.Plain.{uint-vals, uint-tells}
 use denote.Builtin.{u64}
 use denote.Ref.{RefT, MutRef, ptr-vals, mut-tells}
 use denote.Signature.{plain}
-use denote.Steps.{opens, closes, owned, peeks, heard, nothing}
+use denote.Steps.{opens, closes, owned, peeks, heard, nothing as nought}
 use denote.Struct.Steps.{spelt}
 use denote.Struct.Laws as LL
 use denote.Enum.Laws as EL
@@ -39,6 +39,7 @@ use denote.Triple.Clauses.{Clauses, Lasts, AtExit, atExit, ensured, lasts, closi
 use denote.Triple.Weaken.{weaken}
 use denote.Exit.{yes}
 use Rattle.waterfall.specs.Register.{GivenBack}
+use Rattle.waterfall.specs.Reply.{Says, nothing}
 use Rattle.waterfall.specs.declared.Register.{Register}
 use Rattle.waterfall.specs.declared.Outcome.{Outcome}
 use Rattle.waterfall.proofs.Register as T
@@ -76,25 +77,30 @@ function key =
 
 module _ {M : Type 1} (𝓤 : URA M) (H : Heap 𝓤) (A : Atoms 𝓤) where
   -- the contracts of the call and of the function, at the call's definition
-  abbrev called : (Register → ℕ → ℕ → Outcome) → Clauses 𝓤 payment.ended
-  called of κs a = record { ghost = Unit {0}; requires = λ _. fact 𝓤 (GivenBack (a .0)); ensures = λ _ r e. sep 𝓤 (fact 𝓤 (r ≡ of (a .0) (a .1 .0) (a .1 .1 .0))) (fact 𝓤 (GivenBack (r .register))) }
+  abbrev called : (Register → ℕ → ℕ → Outcome) → (Register → ℕ → ℕ → ℕ) → Clauses 𝓤 payment.ended
+  called of number κs a =
+      record {
+        ghost = Unit {0};
+        requires = λ _. fact 𝓤 (GivenBack (a .0));
+        ensures = λ _ r e. sep 𝓤 (fact 𝓤 (r ≡ of (a .0) (a .1 .0) (a .1 .1 .0))) (sep 𝓤 (fact 𝓤 (GivenBack (r .register))) (fact 𝓤 (Says (r .reply) (number (a .0) (a .1 .0) (a .1 .1 .0)) nothing)));
+      }
 
-  abbrev pub Call : (Register → ℕ → ℕ → Outcome) → Contract 𝓤
-  Call of = tripleOf 𝓤 H A payment.signature (closing 𝓤 H A payment.ended (called of))
+  abbrev pub Call : (Register → ℕ → ℕ → Outcome) → (Register → ℕ → ℕ → ℕ) → Contract 𝓤
+  Call of number = tripleOf 𝓤 H A payment.signature (closing 𝓤 H A payment.ended (called of number))
 
-  abbrev clauses : (Register → ℕ → ℕ → Outcome) → Clauses 𝓤 pay.ended
-  clauses of κs a =
+  abbrev clauses : (Register → ℕ → ℕ → Outcome) → (Register → ℕ → ℕ → ℕ) → Clauses 𝓤 pay.ended
+  clauses of number κs a =
       record {
         ghost = Unit {0};
         requires = λ _. fact 𝓤 (GivenBack (a .0 .now));
-        ensures = λ _ r e. fact 𝓤 ((r ≡ of (a .0 .now) (a .1 .0) (a .1 .1 .0) .reply) × (e .0 .now ≡ of (a .0 .now) (a .1 .0) (a .1 .1 .0) .register) × GivenBack (e .0 .now));
+        ensures = λ _ r e. fact 𝓤 ((r ≡ of (a .0 .now) (a .1 .0) (a .1 .1 .0) .reply) × (e .0 .now ≡ of (a .0 .now) (a .1 .0) (a .1 .1 .0) .register) × GivenBack (e .0 .now) × Says r (number (a .0 .now) (a .1 .0) (a .1 .1 .0)) nothing);
       }
 
   -- of the call's `ensured`, the clauses alone
-  says-of : (of : Register → ℕ → ℕ → Outcome) (h : Register) (n m : ℕ) (r : Outcome) → ent 𝓤 (ensured 𝓤 H A payment.ended (called of) tt (h, (n, (m, tt))) tt r) (sep 𝓤 (fact 𝓤 (r ≡ of h n m)) (fact 𝓤 (GivenBack (r .register))))
-  says-of of h n m r = exE 𝓤 _ (λ ws. snd∗ 𝓤 (sem 𝓤 H A (lasts payment.ended tt (h, (n, (m, tt))) ws)) (sep 𝓤 (fact 𝓤 (r ≡ of h n m)) (fact 𝓤 (GivenBack (r .register)))))
+  says-of : (of : Register → ℕ → ℕ → Outcome) (number : Register → ℕ → ℕ → ℕ) (h : Register) (n m : ℕ) (r : Outcome) → ent 𝓤 (ensured 𝓤 H A payment.ended (called of number) tt (h, (n, (m, tt))) tt r) (sep 𝓤 (fact 𝓤 (r ≡ of h n m)) (sep 𝓤 (fact 𝓤 (GivenBack (r .register))) (fact 𝓤 (Says (r .reply) (number h n m) nothing))))
+  says-of of number h n m r = exE 𝓤 _ (λ ws. snd∗ 𝓤 (sem 𝓤 H A (lasts payment.ended tt (h, (n, (m, tt))) ws)) (sep 𝓤 (fact 𝓤 (r ≡ of h n m)) (sep 𝓤 (fact 𝓤 (GivenBack (r .register))) (fact 𝓤 (Says (r .reply) (number h n m) nothing)))))
 
-module _ {M : Type 1} (𝓤 : URA M) (H : Heap 𝓤) (A : Atoms 𝓤) (W : Given 𝓤 H A) (of : Register → ℕ → ℕ → Outcome) (key : Name) (κ : Lft) (q : Share) (b o : ℕ) (γ : GName) (h : Register) (n m : ℕ) (fn : n < 2 ^ 64) (fm : m < 2 ^ 64) where
+module _ {M : Type 1} (𝓤 : URA M) (H : Heap 𝓤) (A : Atoms 𝓤) (W : Given 𝓤 H A) (of : Register → ℕ → ℕ → Outcome) (number : Register → ℕ → ℕ → ℕ) (key : Name) (κ : Lft) (q : Share) (b o : ℕ) (γ : GName) (h : Register) (n m : ℕ) (fn : n < 2 ^ 64) (fm : m < 2 ^ 64) where
   abbrev x : Arg
   x = (record { ptr = (b, o); name = γ; now = h }, (n, (m, tt)))
 
@@ -102,23 +108,23 @@ module _ {M : Type 1} (𝓤 : URA M) (H : Heap 𝓤) (A : Atoms 𝓤) (W : Given
   at = (vptr b o ∷ [], (vint w64 n ∷ [], (vint w64 m ∷ [], tt)))
 
   abbrev Post : Val → SProp 𝓤
-  Post = walkOf 𝓤 H A pay.ended stayed (clauses 𝓤 H A of) .post (((κ, tt), (q, tt), tt, x, at), tt)
+  Post = walkOf 𝓤 H A pay.ended stayed (clauses 𝓤 H A of number) .post (((κ, tt), (q, tt), tt, x, at), tt)
 
-  exits : (r : Outcome) → r ≡ of h n m → GivenBack (r .register) → Is R.the-row (r .reply) (reply-val r ∷ []) → ent 𝓤 (sep 𝓤 (A .obs γ (T.the-row .coded .code (r .register))) (sep 𝓤 (A .bor κ (Body (mem T.the-row) b o γ)) (A .lft κ q))) (Post (reply-val r))
-  exits r e back is =
+  exits : (r : Outcome) → r ≡ of h n m → GivenBack (r .register) → Says (r .reply) (number h n m) nothing → Is R.the-row (r .reply) (reply-val r ∷ []) → ent 𝓤 (sep 𝓤 (A .obs γ (T.the-row .coded .code (r .register))) (sep 𝓤 (A .bor κ (Body (mem T.the-row) b o γ)) (A .lft κ q))) (Post (reply-val r))
+  exits r e back said is =
       qed W (‵ (fobs γ (T.the-row .coded .code (r .register))) ∷ ‵ (fbor κ (Body (mem T.the-row) b o γ)) ∷ ‵ (flft κ q) ∷ []) ∵
-      suffices ! _ (ends-at 𝓤 H A pay.ended stayed (clauses 𝓤 H A of) W (((κ, tt), (q, tt), tt, x, at), tt) (reply-val r) (r .reply) (r .register, (tt, (tt, tt))) (tt, (tt, (tt, tt)))) $
-      says ! (ap (λ (p : Outcome). p .reply) e, ap (λ (p : Outcome). p .register) e, back) $ nothing ! $ move ! (3 ∷ 0 ∷ []) $ join ! $
-      frame ! $ feqI ! (List Val) (vptr b o ∷ []) (vptr b o ∷ []) refl $ fjoin3 ! $ nothing ! $ nothing ! $ fjoin ! $ nothing ! $ fjoin ! $ move ! (1 ∷ 0 ∷ []) $ fjoin ! $
+      suffices ! _ (ends-at 𝓤 H A pay.ended stayed (clauses 𝓤 H A of number) W (((κ, tt), (q, tt), tt, x, at), tt) (reply-val r) (r .reply) (r .register, (tt, (tt, tt))) (tt, (tt, (tt, tt)))) $
+      says ! (ap (λ (p : Outcome). p .reply) e, ap (λ (p : Outcome). p .register) e, back, said) $ nought ! $ move ! (3 ∷ 0 ∷ []) $ join ! $
+      frame ! $ feqI ! (List Val) (vptr b o ∷ []) (vptr b o ∷ []) refl $ fjoin3 ! $ nought ! $ nought ! $ fjoin ! $ nought ! $ fjoin ! $ move ! (1 ∷ 0 ∷ []) $ fjoin ! $
       owned ! R.the-row (Is R.the-row) (EL.makes R.the-type R′.the-plain 𝓤 H A) (r .reply) _ is $ move ! (1 ∷ 0 ∷ []) $ done !
 
-  abbrev to : Call 𝓤 H A of .Ghost
+  abbrev to : Call 𝓤 H A of number .Ghost
   to = ((tt, tt, tt, (h, x .1), (vals h, at .1)), tt)
 
-  goes-call : GivenBack h → Is T.the-row h (vals h) → ent 𝓤 (sem 𝓤 H A (owns (u64 ∷ u64 ∷ []) (x .1) (at .1))) (Call 𝓤 H A of .pre to)
-  goes-call given is = qed W (‵ (owns (u64 ∷ u64 ∷ []) (x .1) (at .1)) ∷ []) ∵ says ! given $ owned ! T.the-row (Is T.the-row) (LL.makes T.the-type T′.the-plain 𝓤 H A) h _ is $ fjoin ! $ nothing ! $ frame ! $ done !
+  goes-call : GivenBack h → Is T.the-row h (vals h) → ent 𝓤 (sem 𝓤 H A (owns (u64 ∷ u64 ∷ []) (x .1) (at .1))) (Call 𝓤 H A of number .pre to)
+  goes-call given is = qed W (‵ (owns (u64 ∷ u64 ∷ []) (x .1) (at .1)) ∷ []) ∵ says ! given $ owned ! T.the-row (Is T.the-row) (LL.makes T.the-type T′.the-plain 𝓤 H A) h _ is $ fjoin ! $ nought ! $ frame ! $ done !
 
-  module _ (C : Calls 𝓤 H) (Λ : Loops 𝓤 H) (mono : FmC 𝓤 H (W .laws) C) (known : Triple 𝓤 (C key) (Call 𝓤 H A of)) where
+  module _ (C : Calls 𝓤 H) (Λ : Loops 𝓤 H) (mono : FmC 𝓤 H (W .laws) C) (known : Triple 𝓤 (C key) (Call 𝓤 H A of number)) where
     walk : GivenBack h → ent 𝓤 (onEntry 𝓤 H A pay.signature (κ, tt) (q, tt) x at) (WpFn 𝓤 H C Λ (function key) (vptr b o ∷ vint w64 n ∷ vint w64 m ∷ []) Post)
     walk given =
         qed W ((‵ (flft κ q) ⊛ ‵ ftrue) ∷ ‵ (owns (MutRef (named 0) κ T.the-row ∷ u64 ∷ u64 ∷ []) x at) ∷ []) ∵ split ! $ move ! (2 ∷ []) $ fsplit ! $ fsplit3 ! $ drop ! $ move ! (0 ∷ 1 ∷ 3 ∷ []) $
@@ -130,10 +136,10 @@ module _ {M : Type 1} (𝓤 : URA M) (H : Heap 𝓤) (A : Atoms 𝓤) (W : Given
         move ! (1 ∷ []) $ peeks ! T.the-row (Is T.the-row) (shows 𝓤 H A T.the-row) h (vals h) (λ is. drop ! $
         -- [0 the register's cell; 1 the open borrow; 2 obs; 3 auth; 4 room for _5; 6 room for _4; 8 _3; 10 _2; 12 _1; 14 room for _0; 16 what the figures own; ..]
         assigns ! (of-opd ! (load ! (from ! (hop ! (look ! 12 refl) (stop !))) (look-raw ! 0 refl))) (from ! (stop !)) (init ! 4 refl (LL.lawful T.the-type T′.the-laws 𝓤 H A W .typed h (vals h) is .0)) $
-        move ! (16 ∷ []) $ use1 W (raw (Call 𝓤 H A of .pre to)) (goes-call given is) $
-        calls-at ! mono (Call 𝓤 H A of) known to (and-then ! (load ! (from ! (stop !)) (look ! 5 refl)) (and-then ! (load ! (from ! (stop !)) (look ! 11 refl)) (and-then ! (load ! (from ! (stop !)) (look ! 9 refl)) (no-more !)))) (λ v.
-        use1 W (later (some (λ (r : Outcome). (‵ ftrue ⊛ ‵ (O.the-row .own r (v ∷ []))) ⊛ raw (ensured 𝓤 H A payment.ended (called 𝓤 H A of) tt (h, x .1) tt r)))) (id⊢ 𝓤 _) $ await ! tt $ pick ! (λ r.
-        split ! $ move ! (1 ∷ []) $ use1 W (raw (fact 𝓤 (r ≡ of h n m)) ⊛ raw (fact 𝓤 (GivenBack (r .register)))) (says-of 𝓤 H A of h n m r) $ split ! $ heard ! (r ≡ of h n m) (λ e. heard ! (GivenBack (r .register)) (λ back. split ! $ drop ! $
+        move ! (16 ∷ []) $ use1 W (raw (Call 𝓤 H A of number .pre to)) (goes-call given is) $
+        calls-at ! mono (Call 𝓤 H A of number) known to (and-then ! (load ! (from ! (stop !)) (look ! 5 refl)) (and-then ! (load ! (from ! (stop !)) (look ! 11 refl)) (and-then ! (load ! (from ! (stop !)) (look ! 9 refl)) (no-more !)))) (λ v.
+        use1 W (later (some (λ (r : Outcome). (‵ ftrue ⊛ ‵ (O.the-row .own r (v ∷ []))) ⊛ raw (ensured 𝓤 H A payment.ended (called 𝓤 H A of number) tt (h, x .1) tt r)))) (id⊢ 𝓤 _) $ await ! tt $ pick ! (λ r.
+        split ! $ move ! (1 ∷ []) $ use1 W (raw (fact 𝓤 (r ≡ of h n m)) ⊛ raw (fact 𝓤 (GivenBack (r .register))) ⊛ raw (fact 𝓤 (Says (r .reply) (number h n m) nothing))) (says-of 𝓤 H A of number h n m r) $ split ! $ heard ! (r ≡ of h n m) (λ e. split ! $ heard ! (GivenBack (r .register)) (λ back. heard ! (Says (r .reply) (number h n m) nothing) (λ said. split ! $ drop ! $
         peeks ! O.the-row (Is O.the-row) (shows 𝓤 H A O.the-row) r (v ∷ []) (λ isp.
         -- [0 what the Outcome owns; 1 the register's cell; 2 the open borrow; 3 obs; 4 auth; 5 _5; 7 room for _4; 9 _3; 11 _2; 13 _1; 15 room for _0; ..]
         land ! (from ! (stop !)) (init ! 7 refl (LL.lawful O.the-type O′.the-laws 𝓤 H A W .typed r _ isp .0)) $
@@ -144,22 +150,22 @@ module _ {M : Type 1} (𝓤 : URA M) (H : Heap 𝓤) (A : Atoms 𝓤) (W : Given
         -- [0 obs; 1 the borrow; 2 the token; 3 what the Outcome owns; 4 _5; 6 _4; 8 _3; 10 _2; 12 _1; 14 _0, each with what frees it; ..]
         returns ! (look ! 14 refl) $ forget ! 4 refl $ forget ! 6 refl $ forget ! 8 refl $ forget ! 10 refl $ forget ! 12 refl $ forget ! 14 refl $
         move ! (14 ∷ 15 ∷ []) $ free1 ! $ move ! (12 ∷ 13 ∷ []) $ free1 ! $ move ! (10 ∷ 11 ∷ []) $ free1 ! $ move ! (8 ∷ 9 ∷ []) $ free1 ! $ move ! (6 ∷ 7 ∷ []) $ free1 ! $ move ! (4 ∷ 5 ∷ []) $ free1 ! $ free0 ! $
-        keep ! (0 ∷ 1 ∷ 2 ∷ []) $ by ! (exits r e back (reply-is r _ isp)))))))))))))))
+        keep ! (0 ∷ 1 ∷ 2 ∷ []) $ by ! (exits r e back said (reply-is r _ isp))))))))))))))))
 
-module _ {M : Type 1} (𝓤 : URA M) (H : Heap 𝓤) (A : Atoms 𝓤) (W : Given 𝓤 H A) (of : Register → ℕ → ℕ → Outcome) (key : Name) where
-  walks : (C : Calls 𝓤 H) (Λ : Loops 𝓤 H) → FmC 𝓤 H (W .laws) C → Triple 𝓤 (C key) (Call 𝓤 H A of) → Walks 𝓤 H A pay.ended stayed (WpFn 𝓤 H C Λ (function key)) (clauses 𝓤 H A of)
-  walks C Λ mono known = walked 𝓤 H A pay.ended stayed (clauses 𝓤 H A of) (WpFn 𝓤 H C Λ (function key)) (λ κs. (ptr-vals, (uint-vals w64, (uint-vals w64, tt)))) (λ κs. (mut-tells (named 0) (κs .0) T.the-row, (uint-tells w64, (uint-tells w64, tt))))
-      (λ κs qs bounds a g are. needs 𝓤 (GivenBack (a .0 .now)) _ (λ given. walk 𝓤 H A W of key (κs .0) (qs .0) (a .0 .ptr .0) (a .0 .ptr .1) (a .0 .name) (a .0 .now) (a .1 .0) (a .1 .1 .0) (are .1 .0 .1) (are .1 .1 .0 .1) C Λ mono known given))
+module _ {M : Type 1} (𝓤 : URA M) (H : Heap 𝓤) (A : Atoms 𝓤) (W : Given 𝓤 H A) (of : Register → ℕ → ℕ → Outcome) (number : Register → ℕ → ℕ → ℕ) (key : Name) where
+  walks : (C : Calls 𝓤 H) (Λ : Loops 𝓤 H) → FmC 𝓤 H (W .laws) C → Triple 𝓤 (C key) (Call 𝓤 H A of number) → Walks 𝓤 H A pay.ended stayed (WpFn 𝓤 H C Λ (function key)) (clauses 𝓤 H A of number)
+  walks C Λ mono known = walked 𝓤 H A pay.ended stayed (clauses 𝓤 H A of number) (WpFn 𝓤 H C Λ (function key)) (λ κs. (ptr-vals, (uint-vals w64, (uint-vals w64, tt)))) (λ κs. (mut-tells (named 0) (κs .0) T.the-row, (uint-tells w64, (uint-tells w64, tt))))
+      (λ κs qs bounds a g are. needs 𝓤 (GivenBack (a .0 .now)) _ (λ given. walk 𝓤 H A W of number key (κs .0) (qs .0) (a .0 .ptr .0) (a .0 .ptr .1) (a .0 .name) (a .0 .now) (a .1 .0) (a .1 .1 .0) (are .1 .0 .1) (are .1 .1 .0 .1) C Λ mono known given))
 
   goes : AllGo 𝓤 H A W 1 (pay.signature .params) (pay.ended .kept) stayed
   goes = (goes-ref 𝓤 H A W 1 0 tt (plain (λ _. T.the-row)), (goes-dropped 𝓤 H A W 1 (plain (λ _. u64)) yes (λ κs x f. refl), (goes-dropped 𝓤 H A W 1 (plain (λ _. u64)) yes (λ κs x f. refl), tt)))
 
 -- at a contract whose `ensures` follows from what the call says
-module _ {M : Type 1} (𝓤 : URA M) (H : Heap 𝓤) (A : Atoms 𝓤) (W : Given 𝓤 H A) (of : Register → ℕ → ℕ → Outcome) (key : Name)
+module _ {M : Type 1} (𝓤 : URA M) (H : Heap 𝓤) (A : Atoms 𝓤) (W : Given 𝓤 H A) (of : Register → ℕ → ℕ → Outcome) (number : Register → ℕ → ℕ → ℕ) (key : Name)
     (ensures : (κs : Lfts 1) (a : Args pay.signature κs) → Unit {0} → Res pay.signature κs → AtExit pay.ended κs → SProp 𝓤) where
-  pub meets : ((κs : Lfts 1) (a : Args pay.signature κs) (g : Unit {0}) (r : Res pay.signature κs) (ws : Lasts pay.ended κs a) → ent 𝓤 (clauses 𝓤 H A of κs a .ensures g r (atExit pay.ended κs a ws)) (ensures κs a g r (atExit pay.ended κs a ws)))
-      → (𝓣 : Tables 𝓤 H) → Triple 𝓤 (𝓣 .C key) (Call 𝓤 H A of)
-      → Meets 𝓤 H A pay.signature (WpFn 𝓤 H (𝓣 .C) (𝓣 .Λ) (function key)) (closing 𝓤 H A pay.ended (λ κs a. record { ghost = Unit {0}; requires = clauses 𝓤 H A of κs a .requires; ensures = ensures κs a }))
+  pub meets : ((κs : Lfts 1) (a : Args pay.signature κs) (g : Unit {0}) (r : Res pay.signature κs) (ws : Lasts pay.ended κs a) → ent 𝓤 (clauses 𝓤 H A of number κs a .ensures g r (atExit pay.ended κs a ws)) (ensures κs a g r (atExit pay.ended κs a ws)))
+      → (𝓣 : Tables 𝓤 H) → Triple 𝓤 (𝓣 .C key) (Call 𝓤 H A of number)
+      → Meets 𝓤 H A pay.signature (WpFn 𝓤 H (𝓣 .C) (𝓣 .Λ) (function key)) (closing 𝓤 H A pay.ended (λ κs a. record { ghost = Unit {0}; requires = clauses 𝓤 H A of number κs a .requires; ensures = ensures κs a }))
   meets follows 𝓣 known =
-      weaken 𝓤 H A pay.ended W (clauses 𝓤 H A of) ensures follows (WpFn 𝓤 H (𝓣 .C) (𝓣 .Λ) (function key)) (WpFn-mono 𝓤 H (W .laws) 𝓣 (function key))
-      (walk-wraps 𝓤 H A pay.ended stayed W (goes 𝓤 H A W of key) (clauses 𝓤 H A of) (Call 𝓤 H A of) key (function key) (walks 𝓤 H A W of key) 𝓣 known)
+      weaken 𝓤 H A pay.ended W (clauses 𝓤 H A of number) ensures follows (WpFn 𝓤 H (𝓣 .C) (𝓣 .Λ) (function key)) (WpFn-mono 𝓤 H (W .laws) 𝓣 (function key))
+      (walk-wraps 𝓤 H A pay.ended stayed W (goes 𝓤 H A W of number key) (clauses 𝓤 H A of number) (Call 𝓤 H A of number) key (function key) (walks 𝓤 H A W of number key) 𝓣 known)

@@ -9,8 +9,8 @@ use Rattle.lists.specs.Limits.{memberLimit}
 use Rattle.sheets.specs.Bytes.{recordAt}
 use Rattle.sheets.specs.Members.{memberAt, firstAt, secondAt, thirdAt}
 use Rattle.sheets.specs.Sheet.{recordCount}
-use Rattle.waterfall.specs.Opening.{firstTranche, secondTranche, openedOf}
-use Rattle.waterfall.specs.Register.{figure}
+use Rattle.waterfall.specs.Opening.{tranche1Of, tranche2Of, openedOf}
+use Rattle.figures.specs.Figures.{figure}
 use Rattle.waterfall.specs.Reply.{Layer, replyNumber, fallenOf, layerOf, shortOf}
 use Rattle.waterfall.specs.declared.Register.{Register}
 use Rattle.drill.specs.Drill.{Event}
@@ -52,10 +52,10 @@ module _ (sheet : List ℕ) (g : ℕ) where
   sheetCap member = openingSum (inSheet thirdAt sheet member)
 
   abbrev pub openingTranche1 : ℕ
-  openingTranche1 = openingSum (firstTranche g)
+  openingTranche1 = openingSum (tranche1Of g)
 
   abbrev pub openingTranche2 : ℕ
-  openingTranche2 = openingSum (secondTranche g)
+  openingTranche2 = openingSum (tranche2Of g)
 
 -- one event --------------------------------------------------------------------
 
@@ -91,17 +91,17 @@ isClose (Payment who amount) = false
 isClose (Replenishment who amount) = false
 isClose Close = true
 
-abbrev pub paidTo : DrillCall → ℕ → ℕ
-paidTo (Default who loss) member = 0
-paidTo (Payment who amount) member = cond (eqb who member) amount 0
-paidTo (Replenishment who amount) member = 0
-paidTo Close member = 0
+abbrev pub paidIn : DrillCall → ℕ → ℕ
+paidIn (Default who loss) member = 0
+paidIn (Payment who amount) member = cond (eqb who member) amount 0
+paidIn (Replenishment who amount) member = 0
+paidIn Close member = 0
 
-abbrev pub replenishedTo : DrillCall → ℕ → ℕ
-replenishedTo (Default who loss) member = 0
-replenishedTo (Payment who amount) member = 0
-replenishedTo (Replenishment who amount) member = cond (eqb who member) amount 0
-replenishedTo Close member = 0
+abbrev pub replenishedIn : DrillCall → ℕ → ℕ
+replenishedIn (Default who loss) member = 0
+replenishedIn (Payment who amount) member = 0
+replenishedIn (Replenishment who amount) member = cond (eqb who member) amount 0
+replenishedIn Close member = 0
 
 -- "Losses are those handed to accepted defaults; shortfalls and fallen calls are those in their answers."
 abbrev pub lossIn : Event → ℕ
@@ -134,10 +134,10 @@ callOn member e = cond (accepted e && isDefault (e .call)) (figure (take memberL
 
 -- "Paid is what its accepted payments add to."; "Replenishments are the accepted amounts"
 abbrev pub paidBy : ℕ → Event → ℕ
-paidBy member e = ifAccepted e (paidTo (e .call) member)
+paidBy member e = ifAccepted e (paidIn (e .call) member)
 
 abbrev pub replenishedBy : ℕ → Event → ℕ
-replenishedBy member e = ifAccepted e (replenishedTo (e .call) member)
+replenishedBy member e = ifAccepted e (replenishedIn (e .call) member)
 
 -- a list of events ----------------------------------------------------------------
 

@@ -1,8 +1,10 @@
 -- What a drill call does, and the trace of a list of calls.
 use Prim.Native.Nat.{ℕ}
 use mathlib.Core.List.{List, [], _∷_}
-use Rattle.waterfall.specs.Default.{defaultOf, defaultSlip}
-use Rattle.waterfall.specs.Calls.{paymentOf, replenishmentOf, closeOf}
+use Rattle.waterfall.specs.Default.{allocationOf, defaultRefusal, defaultOf, defaultSlip}
+use Rattle.waterfall.specs.Calls.{paymentRefusal, paymentOf, replenishmentRefusal, replenishmentOf, closeRefusal, closeOf}
+use Rattle.waterfall.specs.Reply.{nothing}
+use Rattle.waterfall.specs.declared.Allocation.{Allocation}
 use Rattle.waterfall.specs.declared.Register.{Register}
 use Rattle.waterfall.specs.declared.Reply.{Reply}
 use Rattle.waterfall.specs.declared.Outcome.{Outcome}
@@ -22,6 +24,19 @@ slipLeft r (Default member loss) ranks slip = defaultSlip r member loss ranks sl
 slipLeft r (Payment member amount) ranks slip = slip
 slipLeft r (Replenishment member amount) ranks slip = slip
 slipLeft r Close ranks slip = slip
+
+-- the number of its refusal, 0 where it is accepted, and what it allocates: only a default does
+unfoldable pub refusalOf : Register → DrillCall → List ℕ → List ℕ → ℕ
+refusalOf r (Default member loss) ranks slip = defaultRefusal r member loss ranks slip
+refusalOf r (Payment member amount) ranks slip = paymentRefusal r member amount
+refusalOf r (Replenishment member amount) ranks slip = replenishmentRefusal r member amount
+refusalOf r Close ranks slip = closeRefusal r
+
+unfoldable pub allocatedBy : Register → DrillCall → List ℕ → Allocation
+allocatedBy r (Default member loss) ranks = allocationOf r member loss ranks
+allocatedBy r (Payment member amount) ranks = nothing
+allocatedBy r (Replenishment member amount) ranks = nothing
+allocatedBy r Close ranks = nothing
 
 -- what is handed over in a step: a call, its ranks and its slip
 pub record Step : Type 0 where

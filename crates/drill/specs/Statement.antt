@@ -4,7 +4,7 @@ use mathlib.Core.Path.{_≡_}
 use mathlib.Core.Bool.{true}
 use mathlib.Core.List.{List, [], _∷_, _++_}
 use Rattle.waterfall.specs.Opening.{openedOf}
-use Rattle.waterfall.specs.Register.{figure}
+use Rattle.figures.specs.Figures.{figure}
 use Rattle.waterfall.specs.Reply.{Layer, layer1, layer2, layer3, layer4, layer5, layer6}
 use Rattle.waterfall.specs.declared.Register.{Register}
 use Rattle.drill.specs.Drill.{Step, Event, trace}
@@ -20,9 +20,9 @@ module _ (Other CalledUp : ℕ → Type 0) (e : Event) (member : ℕ) where
   abbrev pub Empty : Layer → Type 0
   Empty layer1 = figure (e .register .margin) member ≡ 0
   Empty layer2 = figure (e .register .contribution) member ≡ 0
-  Empty layer3 = e .register .first ≡ 0
+  Empty layer3 = e .register .tranche1 ≡ 0
   Empty layer4 = (n : ℕ) → Other n → figure (e .register .contribution) n ≡ 0
-  Empty layer5 = e .register .second ≡ 0
+  Empty layer5 = e .register .tranche2 ≡ 0
   Empty layer6 = (n : ℕ) → Other n → CalledUp n
 
   -- "If a layer's total is above zero, every earlier layer is empty (..); if the shortfall is, all six are."
@@ -67,8 +67,8 @@ module _ (sheet : List ℕ) (g : ℕ) (steps : List Step) where
     pub margins : (m : ℕ) → openingMargin sheet g m ≡ figure (last .margin) m + sumOver (layerBy layer1 m) events
     pub contributions : (m : ℕ) → openingContribution sheet g m + sumOver (replenishedBy m) events
         ≡ figure (last .contribution) m + sumOver (layerBy layer2 m) events + sumOver (chargeOn m) events
-    pub tranche1 : openingTranche1 sheet g ≡ last .first + sumOver (layerIn layer3) events
-    pub tranche2 : openingTranche2 sheet g ≡ last .second + sumOver (layerIn layer5) events
+    pub tranche1 : openingTranche1 sheet g ≡ last .tranche1 + sumOver (layerIn layer3) events
+    pub tranche2 : openingTranche2 sheet g ≡ last .tranche2 + sumOver (layerIn layer5) events
     -- calls are accounted for: those made are paid, outstanding or fallen
     pub calls : (m : ℕ) → sumOver (callOn m) events ≡ sumOver (paidBy m) events + figure (last .outstanding) m + sumOver (fallenBy m) events
     -- layers and ranks are charged in order, at every accepted default of the list

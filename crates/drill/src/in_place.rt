@@ -4,8 +4,9 @@ use waterfall::Register;
 use waterfall::Reply;
 ghost use mathlib.Core.Path.{_≡_};
 ghost use Rattle.waterfall.specs.Register.{GivenBack};
-ghost use Rattle.waterfall.specs.Default.{defaultOf, defaultSlip};
-ghost use Rattle.waterfall.specs.Calls.{paymentOf, replenishmentOf, closeOf};
+ghost use Rattle.waterfall.specs.Default.{allocationOf, defaultRefusal, defaultOf, defaultSlip};
+ghost use Rattle.waterfall.specs.Calls.{paymentRefusal, paymentOf, replenishmentRefusal, replenishmentOf, closeRefusal, closeOf};
+ghost use Rattle.waterfall.specs.Reply.{Says, nothing};
 
 pub fn declare(
     register: &mut Register,
@@ -18,7 +19,8 @@ pub fn declare(
     ensures { λ r. ⌜ (r ≡ defaultOf (now (register .entry)) member loss (now (ranks .entry)) (now (slip .entry)) .reply)
         × (now (register .exit) ≡ defaultOf (now (register .entry)) member loss (now (ranks .entry)) (now (slip .entry)) .register)
         × (now (slip .exit) ≡ defaultSlip (now (register .entry)) member loss (now (ranks .entry)) (now (slip .entry)))
-        × GivenBack (now (register .exit)) ⌝ }
+        × GivenBack (now (register .exit))
+        × Says r (defaultRefusal (now (register .entry)) member loss (now (ranks .entry)) (now (slip .entry))) (allocationOf (now (register .entry)) member loss (now (ranks .entry))) ⌝ }
 {
     let outcome = waterfall::declaration::declare(*register, member, loss, ranks, slip);
     *register = outcome.register;
@@ -29,7 +31,7 @@ pub fn pay(register: &mut Register, member: u64, amount: u64) -> Reply
     requires { ⌜ GivenBack (now register) ⌝ }
     ensures { λ r. ⌜ (r ≡ paymentOf (now (register .entry)) member amount .reply)
         × (now (register .exit) ≡ paymentOf (now (register .entry)) member amount .register)
-        × GivenBack (now (register .exit)) ⌝ }
+        × GivenBack (now (register .exit)) × Says r (paymentRefusal (now (register .entry)) member amount) nothing ⌝ }
 {
     let outcome = waterfall::payment::pay(*register, member, amount);
     *register = outcome.register;
@@ -40,7 +42,7 @@ pub fn replenish(register: &mut Register, member: u64, amount: u64) -> Reply
     requires { ⌜ GivenBack (now register) ⌝ }
     ensures { λ r. ⌜ (r ≡ replenishmentOf (now (register .entry)) member amount .reply)
         × (now (register .exit) ≡ replenishmentOf (now (register .entry)) member amount .register)
-        × GivenBack (now (register .exit)) ⌝ }
+        × GivenBack (now (register .exit)) × Says r (replenishmentRefusal (now (register .entry)) member amount) nothing ⌝ }
 {
     let outcome = waterfall::replenishment::replenish(*register, member, amount);
     *register = outcome.register;
@@ -51,7 +53,7 @@ pub fn close(register: &mut Register) -> Reply
     requires { ⌜ GivenBack (now register) ⌝ }
     ensures { λ r. ⌜ (r ≡ closeOf (now (register .entry)) .reply)
         × (now (register .exit) ≡ closeOf (now (register .entry)) .register)
-        × GivenBack (now (register .exit)) ⌝ }
+        × GivenBack (now (register .exit)) × Says r (closeRefusal (now (register .entry))) nothing ⌝ }
 {
     let outcome = waterfall::close::close(*register);
     *register = outcome.register;

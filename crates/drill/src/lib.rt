@@ -5,7 +5,8 @@ use waterfall::Outcome;
 use waterfall::Register;
 ghost use mathlib.Core.Path.{_≡_};
 ghost use Rattle.waterfall.specs.Register.{GivenBack};
-ghost use Rattle.drill.specs.Drill.{appliedOf, slipLeft};
+ghost use Rattle.waterfall.specs.Reply.{Says};
+ghost use Rattle.drill.specs.Drill.{appliedOf, slipLeft, refusalOf, allocatedBy};
 
 // "A drill call is one of four, each with its own figures." Ranks and slip of a default stand beside it.
 pub enum DrillCall {
@@ -21,6 +22,7 @@ pub fn apply(register: Register, call: DrillCall, ranks: &[u8], slip: &mut [u64]
     ensures { λ r. ⌜ r ≡ appliedOf register call (now (ranks .entry)) (now (slip .entry)) ⌝ }
     ensures { λ _. ⌜ now (slip .exit) ≡ slipLeft register call (now (ranks .entry)) (now (slip .entry)) ⌝ }
     ensures { λ r. ⌜ GivenBack (r .register) ⌝ }
+    ensures { λ r. ⌜ Says (r .reply) (refusalOf register call (now (ranks .entry)) (now (slip .entry))) (allocatedBy register call (now (ranks .entry))) ⌝ }
 {
     match call {
         DrillCall::Default { member, loss } => waterfall::declaration::declare(

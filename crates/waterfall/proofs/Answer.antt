@@ -1,100 +1,87 @@
--- What the proofs of the calls share.
+-- What the proofs of the calls share: a call is judged and answered.
 use Prim.Native.Nat.{ℕ, _+_, _-_, _≤_, _<_}
-use mathlib.Core.Path.{_≡_, refl, ap, sym, _∙_, subst}
-use mathlib.Core.Bool.{Bool, true, false, _||_}
-use mathlib.Core.Logic.{inl, inr}
-use mathlib.Core.List.{List}
+use mathlib.Core.Path.{_≡_, refl, sym, _∙_}
+use mathlib.Core.Bool.{Bool, false, _||_}
 use native.Mathlib.Omega.{arith}
 use native.Mathlib.Decide.{decLt}
-use borrow.Author.Tests.{lt-ltb, le-ltb, ltb-true, ltb-false, eqb-true, eqb-false}
+use borrow.Author.Tests.{lt-ltb, le-ltb, ltb-false}
 use lib.Dec.{eqb, ltb}
-use lib.ListN.{length}
 use Rattle.lists.specs.Checks.{check}
 use Rattle.lists.specs.Limits.{memberLimit}
-use Rattle.lists.proofs.Checks.{Row, row-end, row-check, check-past, neither, either}
-use Rattle.waterfall.specs.Calls.{accept}
-use Rattle.waterfall.specs.Checks.{standing}
-use Rattle.waterfall.specs.Register.{absent, inDefault, figure, GivenBack}
-use Rattle.waterfall.specs.Reply.{refuse}
+use Rattle.lists.proofs.Checks.{check-lt, check-nlt, check-by, check-past, neither, no-refusal}
+use Rattle.admission.specs.Admission.{standing}
+use Rattle.admission.proofs.Passed.{passes, place}
+use Rattle.waterfall.specs.Register.{GivenBack}
+use Rattle.waterfall.specs.Reply.{Layer, layer1, layer2, layer3, layer4, layer5, layer6, allocated, Says, nothing, judged}
+use Rattle.waterfall.specs.declared.Allocation.{Allocation}
 use Rattle.waterfall.specs.declared.Register.{Register}
+use Rattle.waterfall.specs.declared.Reply.{Reply}
+use Rattle.waterfall.specs.declared.Reply.the-variants.{Refused, Accepted, Allocated}
 use Rattle.waterfall.specs.declared.Outcome.{Outcome}
-use Rattle.waterfall.proofs.Figures.{figure-past, figure-place}
 
--- a call's answer by its definition, with the register that it gives back
-pub answered : {o : Outcome} (d : Outcome) → GivenBack (d .register) → o ≡ d → (o ≡ d) × GivenBack (o .register)
-answered d g e = (e, subst (λ (o : Outcome). GivenBack (o .register)) (sym e) g)
+-- what an accepted call says
+none-allocated : (l : Layer) → 0 ≡ allocated l nothing
+none-allocated layer1 = refl
+none-allocated layer2 = refl
+none-allocated layer3 = refl
+none-allocated layer4 = refl
+none-allocated layer5 = refl
+none-allocated layer6 = refl
 
--- a number that is no member's has figure 0, every other has a place
-module _ (m : ℕ) (o : Bool) (e : o ≡ (eqb m 0 || ltb memberLimit m)) where
-  pub figure-outside : (xs : List ℕ) → length xs ≡ memberLimit → o ≡ true → figure xs m ≡ 0
-  figure-outside xs l h =
-      elim (either (eqb m 0) (ltb memberLimit m) (sym e ∙ h)) [
-        | inl p ↦ rw (eqb-true m 0 p)
-        | inr p ↦ figure-past xs m (omega (arith, ltb-true memberLimit m p))
-      ]
+pub says-accepted : Says Accepted 0 nothing
+unfolding check
+says-accepted = record { number-is = refl; position-is = refl; fallen-is = refl; layers-are = none-allocated; short-is = refl }
 
-  pub inside : o ≡ false → (0 < m) × (m ≤ memberLimit)
-  inside h =
-      let n = neither (eqb m 0) (ltb memberLimit m) (sym e ∙ h) in
-      (omega (arith, eqb-false m 0 (n .0)), ltb-false memberLimit m (n .1))
+pub says-allocated : (a : Allocation) → Says (Allocated a) 0 a
+unfolding check
+says-allocated a = record { number-is = refl; position-is = refl; fallen-is = refl; layers-are = λ l. refl; short-is = refl }
 
--- 11 and 12: what stands for each number, and the rest
-abbrev standing-of : {A : Type 0} → (ℕ → A) → List ℕ → ℕ → A → A
-standing-of of status member rest =
-    check (eqb (figure status member) absent) (of 11) (check (eqb (figure status member) inDefault) (of 12) rest)
+-- a call that is judged by `number`, answers `reply`, which says `a`, and hands back `next`
+module _ (number : ℕ) (r : Register) (reply : Reply) (next : Register) (a : Allocation) where
+  abbrev pub Promised : Outcome → Type 0
+  Promised o = (o ≡ judged number r reply next) × (GivenBack (o .register) × Says (o .reply) number a)
 
-module _ {A : Type 0} (of : ℕ → A) (rest : A) (status : List ℕ) (member : ℕ) where
-  -- by the number that `standing` answers with a further row
-  standing-row : (n : ℕ) (a : A) → Row of rest n a → Row of rest (standing status member n) (standing-of of status member a)
-  standing-row n a w = row-check of rest _ 11 (omega arith) (row-check of rest _ 12 (omega arith) w)
+  -- `n` is the number that the code found
+  module _ (given : GivenBack r) (n : ℕ) (found : n ≡ number) where
+    pub refused : 0 < n → Promised (record { reply = Refused n; register = r })
+    unfolding judged
+    refused h =
+        let l : 0 < number = omega arith in
+        let said : Says (Refused n) number a =
+        record {
+          number-is = found;
+          position-is = refl;
+          fallen-is = check-lt _ _ 0 number l refl;
+          layers-are = λ k. check-lt _ _ 0 number l refl;
+          short-is = check-lt _ _ 0 number l refl;
+        } in
+        (rw found (check-lt _ _ 0 number l refl), (given, said))
 
-  -- by the number that it answers alone
-  module _ (n : ℕ) (e : n ≡ standing status member 0) where
-    pub not-standing : 0 < n → of n ≡ standing-of of status member rest
-    not-standing h = ap of e ∙ sym (standing-row 0 rest (row-end of rest) .refused (omega (arith, e)))
+    pub accepted : n ≤ 0 → (number ≡ 0 → GivenBack next) → Says reply 0 a → Promised (record { reply = reply; register = next })
+    unfolding judged
+    accepted z kept says =
+        let e : number ≡ 0 = omega arith in
+        (check-nlt _ _ 0 number (omega arith) refl, (kept e, rw e says))
 
-    pub stands : {x : A} → n ≡ 0 → x ≡ rest → x ≡ standing-of of status member rest
-    stands z q = q ∙ sym (standing-row 0 rest (row-end of rest) .passed (sym e ∙ z))
+-- the register that it hands back
+pub given-judged : (number : ℕ) (r : Register) (reply : Reply) (next : Register) → GivenBack r → (number ≡ 0 → GivenBack next) → GivenBack (judged number r reply next .register)
+unfolding judged
+given-judged number r reply next given kept = check-by (λ (o : Outcome). GivenBack (o .register)) _ _ _ (λ _. given) (λ e. kept (no-refusal number e))
 
--- who passes 11 and 12 is in the register, and the rest is what is answered
-passes : (status : List ℕ) (member rest : ℕ) → standing status member rest ≡ 0 → (figure status member ≡ absent → ⊥) × (rest ≡ 0)
-passes status member rest e =
-    let a = check-past (eqb (figure status member) absent) 11 _ (λ q. omega arith) e in
-    (eqb-false _ _ (a .0), check-past (eqb (figure status member) inDefault) 12 rest (λ q. omega arith) (a .1) .1)
+-- who passes 11, 12 and the refusal of an unfit amount has a place, and a fit amount
+pub record Fit (member : ℕ) (unfit : Bool) : Type 0 where
+  pub least : 0 < member
+  pub most : member ≤ memberLimit
+  pub fits : unfit ≡ false
 
--- so it has a place in the register's lists
-pub place : (status : List ℕ) (member rest : ℕ) → length status ≡ memberLimit → standing status member rest ≡ 0 → (0 < member) × (member ≤ memberLimit)
-place status member rest l e = rw l at (figure-place status member _ refl (passes status member rest e .0))
-
--- A call with an amount: 11 and 12, its refusal of an unfit amount by the number `own`, and the register that it gives back.
-abbrev amount-answer : Register → ℕ → ℕ → Bool → Register → Outcome
-amount-answer r member own unfit next = standing-of (λ m. refuse m r) (r .status) member (check unfit (refuse own r) (accept next))
-
--- what is known of it by the number of its refusal
-pub record AmountCall (r : Register) (member own : ℕ) (unfit : Bool) (next : Register) (n : ℕ) : Type 0 where
-  pub refused : 0 < n → (refuse n r ≡ amount-answer r member own unfit next) × GivenBack r
-  pub accepted : n ≤ 0 → (accept next ≡ amount-answer r member own unfit next) × GivenBack next
-  pub fits : n ≤ 0 → unfit ≡ false
-  pub within : n ≤ 0 → (0 < member) × (member ≤ memberLimit)
-
-module _ (r : Register) (member own : ℕ) (unfit : Bool) (next : Register) (n : ℕ) where
-  abbrev number : ℕ
-  number = standing (r .status) member (check unfit own 0)
-
-  pub amount-call : 0 < own → GivenBack r → GivenBack (amount-answer r member own unfit next .register) → n ≡ number → AmountCall r member own unfit next n
-  amount-call above given back e =
-      let row = standing-row (λ m. refuse m r) (accept next) (r .status) member _ _ (row-check _ _ unfit own above (row-end _ _)) in
-      let none : n ≤ 0 → number ≡ 0 = λ z. omega (arith, e) in
-      record {
-        refused = λ h. answered _ back (ap (λ m. refuse m r) e ∙ sym (row .refused (omega (arith, e))));
-        accepted = λ z. answered _ back (sym (row .passed (none z)));
-        fits = λ z. check-past unfit own 0 (λ q. omega arith) (passes (r .status) member _ (none z) .1) .0;
-        within = λ z. place (r .status) member _ (given .status-length) (none z);
-      }
+pub fit : (r : Register) (member reason : ℕ) (unfit : Bool) → GivenBack r → 0 < reason → standing (r .status) member (check unfit reason 0) ≡ 0 → Fit member unfit
+fit r member reason unfit g h e =
+    let at = place (r .status) member _ (g .status-length) e in
+    record { least = at .0; most = at .1; fits = check-past unfit reason 0 (λ q. omega arith) (passes (r .status) member _ e .rest-none) .0 }
 
 -- an amount that is not unfit keeps the sum within its bound
-pub fit : (amount sum most : ℕ) → (eqb amount 0 || ltb most sum) ≡ false → sum ≤ most
-fit amount sum most e = ltb-false most sum (neither (eqb amount 0) _ e .1)
+pub within-bound : (amount sum most : ℕ) → (eqb amount 0 || ltb most sum) ≡ false → sum ≤ most
+within-bound amount sum most e = ltb-false most sum (neither (eqb amount 0) _ e .1)
 
 -- an amount fits the room below a bound where the sum is within the bound, the two being read as `s` and `b`
 pub room-test : (s b stands bound amount : ℕ) → s ≡ stands → b ≡ bound → stands ≤ bound → ltb (b - s) amount ≡ ltb bound (stands + amount)

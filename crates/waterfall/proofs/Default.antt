@@ -4,59 +4,57 @@ use mathlib.Core.Path.{_≡_, refl, ap, _∙_}
 use mathlib.Core.Bool.{Bool, true, false, _||_, _&&_, false≢true}
 use mathlib.Core.List.{List, [], _∷_}
 use native.Mathlib.Omega.{arith}
-use borrow.Author.Tests.{ltb-false}
 use lib.Dec.{eqb, ltb}
 use lib.ListN.{length, getD}
 use Rattle.lists.specs.Limits.{rankLimit}
 use Rattle.lists.specs.Sums.{total, minus, keep}
-use Rattle.lists.proofs.Checks.{neither, and-right}
 use Rattle.lists.proofs.Places.{getD-map-any}
 use Rattle.lists.proofs.Sums.{getD-minus, keep-le}
 use Rattle.split.proofs.Laws.{exceeds-none, split-within, split-whole, total-within}
 use Rattle.ranks.proofs.Laws.{charge-within, exhausted, charges-within as charges-within-sum}
-use Rattle.waterfall.specs.Register.{live, inDefault, figure, replace}
-use Rattle.waterfall.specs.Default.{others, rooms, fallenCall, toPlace, onMargin, after1, onOwnFund, after2, onTranche1, after3, charges, after4, onTranche2, after5, onCalls, calls, shortfall, misranked, overdrawn}
+use Rattle.figures.specs.Figures.{live, inDefault, figure, replace, others}
+use Rattle.admission.specs.Admission.{misranked}
+use Rattle.waterfall.specs.Default.{roomsOf, fallenCall, toPlace, onMargin, after1, onContribution, after2, onTranche1, after3, charges, after4, onTranche2, after5, onCalls, calls, shortfall, overdrawn}
 use Rattle.waterfall.specs.declared.Register.{Register}
 
 -- a member that is in default, the defaulter too, is none of the others
-pub unmarked : (r : Register) (member k : ℕ) → getD (replace (r .status) member inDefault) k 0 ≡ inDefault → getD (others r member) k false ≡ false
-unfolding others
+pub unmarked : (r : Register) (member k : ℕ) → getD (replace (r .status) member inDefault) k 0 ≡ inDefault → getD (others (r .status) member) k false ≡ false
 unmarked r member k e = getD-map-any (eqb live) (replace (r .status) member inDefault) k refl ∙ ap (eqb live) e
 
 -- the rest of a cap is at most cap minus what was called
-pub rooms-within : (r : Register) (member k : ℕ) → getD (rooms r member) k 0 ≤ getD (r .cap) k 0 - getD (r .called) k 0
-unfolding rooms
-rooms-within r member k = omega (arith, keep-le (others r member) (minus (r .cap) (r .called)) k, getD-minus (r .cap) (r .called) k)
+pub rooms-within : (r : Register) (member k : ℕ) → getD (roomsOf r member) k 0 ≤ getD (r .cap) k 0 - getD (r .called) k 0
+unfolding roomsOf
+rooms-within r member k = omega (arith, keep-le (others (r .status) member) (minus (r .cap) (r .called)) k, getD-minus (r .cap) (r .called) k)
 
 module _ (r : Register) (member loss : ℕ) (ranks : List ℕ) where
   -- a charge is at most its weight, so at most its contribution, and at most what is left to place
-  pub charges-weighed : (k : ℕ) → getD (charges r member loss ranks) k 0 ≤ getD (keep (others r member) (r .contribution)) k 0
+  pub charges-weighed : (k : ℕ) → getD (charges r member loss ranks) k 0 ≤ getD (keep (others (r .status) member) (r .contribution)) k 0
   unfolding charges
-  charges-weighed k = charge-within (after3 r member loss) (keep (others r member) (r .contribution)) ranks k
+  charges-weighed k = charge-within (after3 r member loss) (keep (others (r .status) member) (r .contribution)) ranks k
 
   pub charges-within : (k : ℕ) → getD (charges r member loss ranks) k 0 ≤ getD (r .contribution) k 0
-  charges-within k = omega (arith, charges-weighed k, keep-le (others r member) (r .contribution) k)
+  charges-within k = omega (arith, charges-weighed k, keep-le (others (r .status) member) (r .contribution) k)
 
   pub charges-placed : total (charges r member loss ranks) ≤ after3 r member loss
   unfolding charges
-  charges-placed = charges-within-sum (after3 r member loss) (keep (others r member) (r .contribution)) ranks
+  charges-placed = charges-within-sum (after3 r member loss) (keep (others (r .status) member) (r .contribution)) ranks
 
   -- a call is at most the rest of its cap, and the calls are layer 6 together
-  pub calls-within : (k : ℕ) → getD (calls r member loss ranks) k 0 ≤ getD (rooms r member) k 0
+  pub calls-within : (k : ℕ) → getD (calls r member loss ranks) k 0 ≤ getD (roomsOf r member) k 0
   unfolding calls onCalls
-  calls-within k = split-within (onCalls r member loss ranks) (rooms r member) (omega arith) k
+  calls-within k = split-within (onCalls r member loss ranks) (roomsOf r member) (omega arith) k
 
   pub calls-total : total (calls r member loss ranks) ≡ onCalls r member loss ranks
   unfolding calls onCalls
-  calls-total = total-within (onCalls r member loss ranks) (rooms r member) (omega arith)
+  calls-total = total-within (onCalls r member loss ranks) (roomsOf r member) (omega arith)
 
   -- what each layer gives and what is left after it are what was left before it
   pub left1 : onMargin r member loss + after1 r member loss ≡ toPlace r member loss
   unfolding after1 onMargin
   left1 = omega arith
 
-  pub left2 : onOwnFund r member loss + after2 r member loss ≡ after1 r member loss
-  unfolding after2 onOwnFund
+  pub left2 : onContribution r member loss + after2 r member loss ≡ after1 r member loss
+  unfolding after2 onContribution
   left2 = omega arith
 
   pub left3 : onTranche1 r member loss + after3 r member loss ≡ after2 r member loss
@@ -76,7 +74,7 @@ module _ (r : Register) (member loss : ℕ) (ranks : List ℕ) where
   left6 = omega arith
 
   -- the six layers and the shortfall are the loss and the fallen call
-  pub placed : onMargin r member loss + onOwnFund r member loss + onTranche1 r member loss + total (charges r member loss ranks) + onTranche2 r member loss ranks + onCalls r member loss ranks + shortfall r member loss ranks ≡ loss + fallenCall r member
+  pub placed : onMargin r member loss + onContribution r member loss + onTranche1 r member loss + total (charges r member loss ranks) + onTranche2 r member loss ranks + onCalls r member loss ranks + shortfall r member loss ranks ≡ loss + fallenCall r member
   unfolding toPlace
   placed = omega (arith, left1, left2, left3, left4, left5, left6)
 
@@ -85,15 +83,15 @@ module _ (r : Register) (member loss : ℕ) (ranks : List ℕ) where
   unfolding onMargin
   margin-gives = omega arith
 
-  pub own-gives : onOwnFund r member loss ≤ figure (r .contribution) member
-  unfolding onOwnFund
-  own-gives = omega arith
+  pub contribution-gives : onContribution r member loss ≤ figure (r .contribution) member
+  unfolding onContribution
+  contribution-gives = omega arith
 
-  pub tranche1-gives : onTranche1 r member loss ≤ r .first
+  pub tranche1-gives : onTranche1 r member loss ≤ r .tranche1
   unfolding onTranche1
   tranche1-gives = omega arith
 
-  pub tranche2-gives : onTranche2 r member loss ranks ≤ r .second
+  pub tranche2-gives : onTranche2 r member loss ranks ≤ r .tranche2
   unfolding onTranche2
   tranche2-gives = omega arith
 
@@ -102,28 +100,28 @@ module _ (r : Register) (member loss : ℕ) (ranks : List ℕ) where
   unfolding after1 onMargin
   emptied1 h = omega arith
 
-  pub emptied2 : 0 < after2 r member loss → onOwnFund r member loss ≡ figure (r .contribution) member
-  unfolding after2 onOwnFund
+  pub emptied2 : 0 < after2 r member loss → onContribution r member loss ≡ figure (r .contribution) member
+  unfolding after2 onContribution
   emptied2 h = omega arith
 
-  pub emptied3 : 0 < after3 r member loss → onTranche1 r member loss ≡ r .first
+  pub emptied3 : 0 < after3 r member loss → onTranche1 r member loss ≡ r .tranche1
   unfolding after3 onTranche1
   emptied3 h = omega arith
 
-  pub emptied4 : ((k : ℕ) → 0 < getD (keep (others r member) (r .contribution)) k 0 → (0 < getD ranks k 0) × (getD ranks k 0 ≤ rankLimit))
-      → 0 < after4 r member loss ranks → (k : ℕ) → getD (charges r member loss ranks) k 0 ≡ getD (keep (others r member) (r .contribution)) k 0
+  pub emptied4 : ((k : ℕ) → 0 < getD (keep (others (r .status) member) (r .contribution)) k 0 → (0 < getD ranks k 0) × (getD ranks k 0 ≤ rankLimit))
+      → 0 < after4 r member loss ranks → (k : ℕ) → getD (charges r member loss ranks) k 0 ≡ getD (keep (others (r .status) member) (r .contribution)) k 0
   unfolding after4 charges
-  emptied4 ranked h k = exhausted (after3 r member loss) (keep (others r member) (r .contribution)) ranks ranked (omega arith) k
+  emptied4 ranked h k = exhausted (after3 r member loss) (keep (others (r .status) member) (r .contribution)) ranks ranked (omega arith) k
 
-  pub emptied5 : 0 < after5 r member loss ranks → onTranche2 r member loss ranks ≡ r .second
+  pub emptied5 : 0 < after5 r member loss ranks → onTranche2 r member loss ranks ≡ r .tranche2
   unfolding after5 onTranche2
   emptied5 h = omega arith
 
-  pub emptied6 : 0 < shortfall r member loss ranks → (k : ℕ) → getD (calls r member loss ranks) k 0 ≡ getD (rooms r member) k 0
+  pub emptied6 : 0 < shortfall r member loss ranks → (k : ℕ) → getD (calls r member loss ranks) k 0 ≡ getD (roomsOf r member) k 0
   unfolding shortfall calls onCalls
   emptied6 h k =
-      let e : min (after5 r member loss ranks) (total (rooms r member)) ≡ total (rooms r member) = omega arith in
-      rw e (ap (λ (xs : List ℕ). getD xs k 0) (split-whole (rooms r member)))
+      let e : min (after5 r member loss ranks) (total (roomsOf r member)) ≡ total (roomsOf r member) = omega arith in
+      rw e (ap (λ (xs : List ℕ). getD xs k 0) (split-whole (roomsOf r member)))
 
 -- 19 never comes -------------------------------------------------------------------
 
@@ -131,26 +129,5 @@ pub never-overdrawn : (r : Register) (member loss : ℕ) (ranks : List ℕ) → 
 never-overdrawn r member loss ranks =
     rw (
       exceeds-none (charges r member loss ranks) (r .contribution) (charges-within r member loss ranks),
-      exceeds-none (calls r member loss ranks) (rooms r member) (calls-within r member loss ranks),
+      exceeds-none (calls r member loss ranks) (roomsOf r member) (calls-within r member loss ranks),
     )
-
--- the ranks that are read -----------------------------------------------------------
-
--- where no rank is refused, each rank that is read is 1 to 64
-pub ranks-read : (read : List Bool) (ranks : List ℕ) → misranked read ranks ≡ false → (k : ℕ) → k < length ranks → getD read k false ≡ true
-    → (0 < getD ranks k 0) × (getD ranks k 0 ≤ rankLimit)
-unfolding misranked
-ranks-read [] ranks e k h t = absurd (false≢true t)
-ranks-read (b ∷ read) [] e k h t = absurd (omega arith)
-ranks-read (b ∷ read) (rank ∷ ranks) e zero h t =
-    let o = neither _ _ (and-right b _ t (neither _ _ e .0)) in (ltb-false rank 1 (o .0), ltb-false rankLimit rank (o .1))
-ranks-read (b ∷ read) (rank ∷ ranks) e (suc k) h t = ranks-read read ranks (neither (b && (ltb rank 1 || ltb rankLimit rank)) _ e .1) k (omega arith) t
-
--- and those that are not read count as 0
-pub ranks-fit : (read : List Bool) (ranks : List ℕ) → misranked read ranks ≡ false → (k : ℕ) → getD (keep read ranks) k 0 ≤ rankLimit
-unfolding misranked
-ranks-fit [] ranks e k = zero-le
-ranks-fit (b ∷ read) [] e k = zero-le
-ranks-fit (true ∷ read) (rank ∷ ranks) e zero = ltb-false rankLimit rank (neither (ltb rank 1) _ (neither _ _ e .0) .1)
-ranks-fit (false ∷ read) (rank ∷ ranks) e zero = zero-le
-ranks-fit (b ∷ read) (rank ∷ ranks) e (suc k) = ranks-fit read ranks (neither (b && (ltb rank 1 || ltb rankLimit rank)) _ e .1) k

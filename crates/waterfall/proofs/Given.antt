@@ -3,27 +3,22 @@ use Prim.Native.Nat.{ℕ, _+_, _-_, _≤_, zero-le}
 use mathlib.Core.Path.{_≡_, refl, sym, _∙_}
 use mathlib.Core.List.{List}
 use native.Mathlib.Omega.{arith}
-use borrow.Author.Tests.{ltb-false}
 use lib.Dec.{eqb}
 use lib.ListN.{length, getD, length-set, length-map}
 use Rattle.lists.specs.Limits.{memberLimit, amountLimit}
 use Rattle.lists.specs.Sums.{total, minus, keep}
-use Rattle.lists.proofs.Checks.{check-by, neither, no-refusal}
 use Rattle.lists.proofs.Places.{set-all, set-both}
 use Rattle.lists.proofs.Sums.{getD-zeros, getD-plus, getD-minus, length-plus, length-minus, length-keep, unkept, getD-le-total}
 use Rattle.split.proofs.Laws.{length-split}
 use Rattle.ranks.proofs.Laws.{length-charges}
-use Rattle.waterfall.specs.Register.{live, inDefault, figure, replace, none, emptyRegister, GivenBack}
-use Rattle.waterfall.specs.Calls.{paidOf, paymentOf, replenishedOf, replenishmentOf, closedOf, closeOf}
-use Rattle.waterfall.specs.Default.{others, rooms, onMargin, onOwnFund, charges, onCalls, calls, after3, settledOf, defaultOf}
+use Rattle.figures.specs.Figures.{live, inDefault, figure, replace, none, others}
+use Rattle.waterfall.specs.Register.{emptyRegister, GivenBack}
+use Rattle.waterfall.specs.Calls.{paidOf, replenishedOf, closedOf}
+use Rattle.waterfall.specs.Default.{roomsOf, onMargin, onContribution, charges, onCalls, calls, after3, settledOf, defaultRefusal}
 use Rattle.waterfall.specs.declared.Register.{Register}
-use Rattle.waterfall.specs.declared.Outcome.{Outcome}
-use Rattle.waterfall.proofs.Figures.{figure-le-at}
-use Rattle.waterfall.proofs.Admitted.{admitted}
+use Rattle.figures.proofs.Figures.{figure-le-at}
+use Rattle.admission.proofs.Admitted.{admitted}
 use Rattle.waterfall.proofs.Default.{unmarked, rooms-within, calls-within}
-
-abbrev Kept : Outcome → Type 0
-Kept o = GivenBack (o .register)
 
 pub given-empty : GivenBack emptyRegister
 given-empty =
@@ -129,34 +124,33 @@ module _ (r : Register) (g : GivenBack r) where
       }
 
   -- the length of the kept lists of a default
-  pub length-others : (member : ℕ) → length (others r member) ≡ memberLimit
-  unfolding others
+  pub length-others : (member : ℕ) → length (others (r .status) member) ≡ memberLimit
   length-others member = length-map (replace (r .status) member inDefault) (eqb live) ∙ length-set (r .status) (member - 1) inDefault ∙ g .status-length
 
-  length-rooms : (member : ℕ) → length (rooms r member) ≡ memberLimit
-  unfolding rooms
+  length-rooms : (member : ℕ) → length (roomsOf r member) ≡ memberLimit
+  unfolding roomsOf
   length-rooms member =
       let m : length (minus (r .cap) (r .called)) ≡ memberLimit = length-minus (r .cap) (r .called) ∙ g .cap-length in
-      length-keep (others r member) (minus (r .cap) (r .called)) (length-others member ∙ sym m) ∙ m
+      length-keep (others (r .status) member) (minus (r .cap) (r .called)) (length-others member ∙ sym m) ∙ m
 
   pub length-calls : (member loss : ℕ) (ranks : List ℕ) → length (calls r member loss ranks) ≡ memberLimit
   unfolding calls
-  length-calls member loss ranks = length-split (onCalls r member loss ranks) (rooms r member) ∙ length-rooms member
+  length-calls member loss ranks = length-split (onCalls r member loss ranks) (roomsOf r member) ∙ length-rooms member
 
   pub length-charged : (member loss : ℕ) (ranks : List ℕ) → length ranks ≡ memberLimit → length (charges r member loss ranks) ≡ memberLimit
   unfolding charges
   length-charged member loss ranks e =
-      let m : length (keep (others r member) (r .contribution)) ≡ memberLimit = length-keep (others r member) (r .contribution) (length-others member ∙ sym (g .contribution-length)) ∙ g .contribution-length in
-      length-charges (after3 r member loss) (keep (others r member) (r .contribution)) ranks (e ∙ sym m) ∙ m
+      let m : length (keep (others (r .status) member) (r .contribution)) ≡ memberLimit = length-keep (others (r .status) member) (r .contribution) (length-others member ∙ sym (g .contribution-length)) ∙ g .contribution-length in
+      length-charges (after3 r member loss) (keep (others (r .status) member) (r .contribution)) ranks (e ∙ sym m) ∙ m
 
   -- a member that is in default, the defaulter too, is not called
   pub uncalled : (member loss : ℕ) (ranks : List ℕ) (k : ℕ) → getD (replace (r .status) member inDefault) k 0 ≡ inDefault → getD (calls r member loss ranks) k 0 ≡ 0
-  unfolding rooms
+  unfolding roomsOf
   uncalled member loss ranks k e =
       omega (
         arith,
         calls-within r member loss ranks k,
-        unkept (others r member) (minus (r .cap) (r .called)) k (unmarked r member k e),
+        unkept (others (r .status) member) (minus (r .cap) (r .called)) k (unmarked r member k e),
       )
 
   pub given-settled : (member loss : ℕ) (ranks : List ℕ) → length ranks ≡ memberLimit → GivenBack (settledOf r member loss ranks)
@@ -169,7 +163,7 @@ module _ (r : Register) (g : GivenBack r) where
       λ k. omega (arith, calls-within r member loss ranks k, rooms-within r member k) in
       let lc : length calling ≡ memberLimit = length-calls member loss ranks in
       let lo : length (replace (r .outstanding) member 0) ≡ memberLimit = length-set (r .outstanding) (member - 1) 0 ∙ g .outstanding-length in
-      let own : List ℕ = replace (r .contribution) member (figure (r .contribution) member - onOwnFund r member loss) in
+      let own : List ℕ = replace (r .contribution) member (figure (r .contribution) member - onContribution r member loss) in
       record {
         status-length = simp length-set (g .status-length);
         margin-length = simp length-set (g .margin-length);
@@ -181,7 +175,7 @@ module _ (r : Register) (g : GivenBack r) where
         status-known = set-all (λ k x. x ≤ inDefault) (r .status) (member - 1) inDefault (g .status-known) (omega arith);
         margin-fits = fallen-figure (λ k. amountLimit) (r .margin) member (onMargin r member loss) (g .margin-fits);
         contribution-fits = λ k.
-            omega (arith, getD-minus own charged k, fallen-figure (λ n. getD (r .requirement) n 0) (r .contribution) member (onOwnFund r member loss) (g .contribution-fits) k);
+            omega (arith, getD-minus own charged k, fallen-figure (λ n. getD (r .requirement) n 0) (r .contribution) member (onContribution r member loss) (g .contribution-fits) k);
         requirement-fits = g .requirement-fits;
         cap-fits = g .cap-fits;
         called-fits = λ k. omega (arith, getD-plus called calling k, room k, g .called-fits k);
@@ -203,22 +197,7 @@ module _ (r : Register) (g : GivenBack r) where
         tranches-fit = omega (arith, g .tranches-fit);
       }
 
-pub given-payment : (r : Register) (member amount : ℕ) → GivenBack r → GivenBack (paymentOf r member amount .register)
-unfolding paymentOf
-given-payment r member amount g =
-    check-by Kept _ _ _ (λ _. g) (λ _. check-by Kept _ _ _ (λ _. g) (λ _. check-by Kept _ _ _ (λ _. g) (λ _. given-paid r g member amount)))
-
-pub given-replenishment : (r : Register) (member amount : ℕ) → GivenBack r → GivenBack (replenishmentOf r member amount .register)
-unfolding replenishmentOf
-given-replenishment r member amount g =
-    check-by Kept _ _ _ (λ _. g) (λ _. check-by Kept _ _ _ (λ _. g) (λ _. check-by Kept _ _ _ (λ _. g)
-    (λ e. given-replenished r g member amount (ltb-false _ _ (neither (eqb amount 0) _ e .1)))))
-
-pub given-close : (r : Register) → GivenBack r → GivenBack (closeOf r .register)
-unfolding closeOf
-given-close r g = check-by Kept _ _ _ (λ _. g) (λ e. given-closed r g (ltb-false _ _ e))
-
-pub given-default : (r : Register) (member loss : ℕ) (ranks slip : List ℕ) → GivenBack r → GivenBack (defaultOf r member loss ranks slip .register)
-unfolding defaultOf
-given-default r member loss ranks slip g =
-    check-by Kept _ _ _ (λ _. g) (λ e. given-settled r g member loss ranks (admitted r member loss ranks slip (no-refusal _ e) .ranks-length))
+pub given-default : (r : Register) (member loss : ℕ) (ranks slip : List ℕ) → GivenBack r → defaultRefusal r member loss ranks slip ≡ 0 → GivenBack (settledOf r member loss ranks)
+unfolding defaultRefusal
+given-default r member loss ranks slip g e =
+    given-settled r g member loss ranks (admitted (r .status) member loss ranks (length slip) _ e .ranks-length)

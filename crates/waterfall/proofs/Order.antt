@@ -6,21 +6,23 @@ use mathlib.Core.Bool.{true, false}
 use mathlib.Core.List.{List}
 use native.Mathlib.Omega.{arith}
 use lib.Dec.{eqb}
-use lib.ListN.{getD}
+use lib.ListN.{length, getD}
 use Rattle.lists.specs.Limits.{memberLimit, rankLimit}
 use Rattle.lists.specs.Sums.{minus, keep}
 use Rattle.lists.proofs.Places.{getD-map-any}
 use Rattle.lists.proofs.Sums.{kept, unkept, kept-mark, mark-within, getD-minus}
 use Rattle.ranks.proofs.Laws.{juniors-first}
-use Rattle.waterfall.specs.Register.{absent, live, inDefault, figure, replace, GivenBack}
-use Rattle.waterfall.specs.Default.{others, rooms, onMargin, after1, onOwnFund, after2, after3, charges, after4, after5, calls, shortfall, settledOf}
+use Rattle.figures.specs.Figures.{absent, live, inDefault, figure, replace, others}
+use Rattle.waterfall.specs.Register.{GivenBack}
+use Rattle.waterfall.specs.Default.{roomsOf, onMargin, after1, onContribution, after2, after3, charges, after4, after5, calls, shortfall, settledOf}
 use Rattle.waterfall.specs.declared.Register.{Register}
-use Rattle.waterfall.proofs.Admitted.{Admitted}
-use Rattle.waterfall.proofs.Default.{unmarked, charges-weighed, emptied1, emptied2, emptied3, emptied4, emptied5, emptied6, ranks-read}
+use Rattle.admission.proofs.Admitted.{Admitted}
+use Rattle.admission.proofs.Ranked.{ranks-read}
+use Rattle.waterfall.proofs.Default.{unmarked, charges-weighed, emptied1, emptied2, emptied3, emptied4, emptied5, emptied6}
 use Rattle.waterfall.proofs.Given.{length-others}
-use Rattle.waterfall.proofs.Figures.{figure-member, figure-same, figure-other, figure-plus, figure-minus}
+use Rattle.figures.proofs.Figures.{figure-member, figure-same, figure-other, figure-plus, figure-minus}
 
-module _ (r : Register) (g : GivenBack r) (member loss : ℕ) (ranks slip : List ℕ) (a : Admitted r member loss ranks slip) where
+module _ (r : Register) (g : GivenBack r) (member loss : ℕ) (ranks slip : List ℕ) (a : Admitted (r .status) member loss ranks (length slip)) where
   abbrev after : Register
   after = settledOf r member loss ranks
 
@@ -36,32 +38,31 @@ module _ (r : Register) (g : GivenBack r) (member loss : ℕ) (ranks slip : List
   Other n = (figure (r .status) n ≡ live) × (n ≡ member → ⊥)
 
   -- the marks of the others
-  marked : (n : ℕ) → figure (r .status) n ≡ live → (member ≡ n → ⊥) → (k : ℕ) → n ≡ suc k → getD (others r member) k false ≡ true
-  unfolding others
+  marked : (n : ℕ) → figure (r .status) n ≡ live → (member ≡ n → ⊥) → (k : ℕ) → n ≡ suc k → getD (others (r .status) member) k false ≡ true
   marked n s d k e =
       getD-map-any (eqb live) (replace (r .status) member inDefault) k refl
       ∙ ap (eqb live) (sym (ap (figure (replace (r .status) member inDefault)) e) ∙ figure-other (r .status) member n inDefault (defaulter-known .0) d ∙ s)
 
   -- the figures of the settled register ------------------------------------------
 
-  pub settled-own : figure (after .contribution) member ≡ figure (r .contribution) member - onOwnFund r member loss - figure (charges r member loss ranks) member
+  pub settled-contribution : figure (after .contribution) member ≡ figure (r .contribution) member - onContribution r member loss - figure (charges r member loss ranks) member
   unfolding settledOf
-  settled-own =
-      let own : List ℕ = replace (r .contribution) member (figure (r .contribution) member - onOwnFund r member loss) in
+  settled-contribution =
+      let own : List ℕ = replace (r .contribution) member (figure (r .contribution) member - onContribution r member loss) in
       omega (
         arith,
         figure-minus own (charges r member loss ranks) member,
-        figure-same (r .contribution) member member (figure (r .contribution) member - onOwnFund r member loss) (defaulter-known .0) (omega (arith, defaulter-known, g .contribution-length)) refl,
+        figure-same (r .contribution) member member (figure (r .contribution) member - onContribution r member loss) (defaulter-known .0) (omega (arith, defaulter-known, g .contribution-length)) refl,
       )
 
   pub settled-other : (n : ℕ) → (member ≡ n → ⊥) → figure (after .contribution) n ≡ figure (r .contribution) n - figure (charges r member loss ranks) n
   unfolding settledOf
   settled-other n d =
-      let own : List ℕ = replace (r .contribution) member (figure (r .contribution) member - onOwnFund r member loss) in
+      let own : List ℕ = replace (r .contribution) member (figure (r .contribution) member - onContribution r member loss) in
       omega (
         arith,
         figure-minus own (charges r member loss ranks) n,
-        figure-other (r .contribution) member n (figure (r .contribution) member - onOwnFund r member loss) (defaulter-known .0) d,
+        figure-other (r .contribution) member n (figure (r .contribution) member - onContribution r member loss) (defaulter-known .0) d,
       )
 
   pub settled-margin : figure (after .margin) member ≡ figure (r .margin) member - onMargin r member loss
@@ -80,25 +81,25 @@ module _ (r : Register) (g : GivenBack r) (member loss : ℕ) (ranks slip : List
           omega (
             arith,
             charges-weighed r member loss ranks k,
-            unkept (others r member) (r .contribution) k (unmarked r member k s),
+            unkept (others (r .status) member) (r .contribution) k (unmarked r member k s),
           )
 
   -- another live member's weight is its contribution, and its room the rest of its cap
-  weight : (n : ℕ) → Other n → figure (keep (others r member) (r .contribution)) n ≡ figure (r .contribution) n
+  weight : (n : ℕ) → Other n → figure (keep (others (r .status) member) (r .contribution)) n ≡ figure (r .contribution) n
   weight zero o = refl
-  weight (suc k) o = kept (others r member) (r .contribution) k (marked (suc k) (o .0) (λ e. o .1 (sym e)) k refl)
+  weight (suc k) o = kept (others (r .status) member) (r .contribution) k (marked (suc k) (o .0) (λ e. o .1 (sym e)) k refl)
 
-  room : (n : ℕ) → Other n → figure (rooms r member) n ≡ figure (r .cap) n - figure (r .called) n
-  unfolding rooms
+  room : (n : ℕ) → Other n → figure (roomsOf r member) n ≡ figure (r .cap) n - figure (r .called) n
+  unfolding roomsOf
   room zero o = refl
   room (suc k) o =
-      kept (others r member) (minus (r .cap) (r .called)) k (marked (suc k) (o .0) (λ e. o .1 (sym e)) k refl) ∙ getD-minus (r .cap) (r .called) k
+      kept (others (r .status) member) (minus (r .cap) (r .called)) k (marked (suc k) (o .0) (λ e. o .1 (sym e)) k refl) ∙ getD-minus (r .cap) (r .called) k
 
   -- each weight has a rank from 1 to the limit
-  ranked : (k : ℕ) → 0 < getD (keep (others r member) (r .contribution)) k 0 → (0 < getD ranks k 0) × (getD ranks k 0 ≤ rankLimit)
+  ranked : (k : ℕ) → 0 < getD (keep (others (r .status) member) (r .contribution)) k 0 → (0 < getD ranks k 0) × (getD ranks k 0 ≤ rankLimit)
   ranked k h =
-      let m : getD (others r member) k false ≡ true = kept-mark (others r member) (r .contribution) k h in
-      ranks-read (others r member) ranks (a .well-ranked) k (omega (arith, mark-within (others r member) k m, length-others r g member, a .ranks-length)) m
+      let m : getD (others (r .status) member) k false ≡ true = kept-mark (others (r .status) member) (r .contribution) k h in
+      ranks-read (others (r .status) member) ranks (a .well-ranked) k (omega (arith, mark-within (others (r .status) member) k m, length-others r g member, a .ranks-length)) m
 
   -- layers that are empty -----------------------------------------------------------
 
@@ -106,9 +107,9 @@ module _ (r : Register) (g : GivenBack r) (member loss : ℕ) (ranks slip : List
   empty1 h = omega (arith, settled-margin, emptied1 r member loss ranks h)
 
   pub empty2 : 0 < after2 r member loss → figure (after .contribution) member ≡ 0
-  empty2 h = omega (arith, settled-own, emptied2 r member loss ranks h)
+  empty2 h = omega (arith, settled-contribution, emptied2 r member loss ranks h)
 
-  pub empty3 : 0 < after3 r member loss → after .first ≡ 0
+  pub empty3 : 0 < after3 r member loss → after .tranche1 ≡ 0
   unfolding settledOf
   empty3 h = omega (arith, emptied3 r member loss ranks h)
 
@@ -117,7 +118,7 @@ module _ (r : Register) (g : GivenBack r) (member loss : ℕ) (ranks slip : List
   empty4 h (suc k) o =
       omega (arith, settled-other (suc k) (λ e. o .1 (sym e)), emptied4 r member loss ranks ranked h k, weight (suc k) o)
 
-  pub empty5 : 0 < after5 r member loss ranks → after .second ≡ 0
+  pub empty5 : 0 < after5 r member loss ranks → after .tranche2 ≡ 0
   unfolding settledOf
   empty5 h = omega (arith, emptied5 r member loss ranks h)
 
@@ -139,8 +140,8 @@ module _ (r : Register) (g : GivenBack r) (member loss : ℕ) (ranks slip : List
   by-rank zero n p o h = absurd (omega arith)
   by-rank (suc i) zero p o h = refl
   by-rank (suc i) (suc j) p o h =
-      let m : getD (others r member) j false ≡ true = marked (suc j) (o .0) (λ e. o .1 (sym e)) j refl in
-      let q = ranks-read (others r member) ranks (a .well-ranked) j (omega (arith, mark-within (others r member) j m, length-others r g member, a .ranks-length)) m in
+      let m : getD (others (r .status) member) j false ≡ true = marked (suc j) (o .0) (λ e. o .1 (sym e)) j refl in
+      let q = ranks-read (others (r .status) member) ranks (a .well-ranked) j (omega (arith, mark-within (others (r .status) member) j m, length-others r g member, a .ranks-length)) m in
       omega (
         arith,
         settled-other (suc j) (λ e. o .1 (sym e)),
@@ -148,5 +149,5 @@ module _ (r : Register) (g : GivenBack r) (member loss : ℕ) (ranks slip : List
         weight (suc j) o,
       )
     where
-      whole : (i j : ℕ) → 0 < getD (charges r member loss ranks) i 0 → getD ranks i 0 < getD ranks j 0 → getD ranks j 0 ≤ rankLimit → getD (charges r member loss ranks) j 0 ≡ getD (keep (others r member) (r .contribution)) j 0
-      whole i j = juniors-first (after3 r member loss) (keep (others r member) (r .contribution)) ranks i j
+      whole : (i j : ℕ) → 0 < getD (charges r member loss ranks) i 0 → getD ranks i 0 < getD ranks j 0 → getD ranks j 0 ≤ rankLimit → getD (charges r member loss ranks) j 0 ≡ getD (keep (others (r .status) member) (r .contribution)) j 0
+      whole i j = juniors-first (after3 r member loss) (keep (others (r .status) member) (r .contribution)) ranks i j

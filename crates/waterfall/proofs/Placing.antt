@@ -16,18 +16,23 @@ use Rattle.lists.proofs.Sums.{unkept, zeros, getD-zeros}
 use Rattle.split.specs.Split.{splitOf, exceeds}
 use Rattle.split.proofs.Laws.{length-split, total-within, exceeds-none}
 use Rattle.ranks.specs.Ranks.{chargesOf}
-use Rattle.waterfall.specs.Register.{live, inDefault, figure, replace, GivenBack}
-use Rattle.waterfall.specs.Default.{gives, othersIn, others, rooms, fallenCall, toPlace, onMargin, after1, onOwnFund, after2, onTranche1, after3, charges, after4, onTranche2, after5, onCalls, calls, shortfall, allocationOf, settledBy, settledOf, misranked, overdrawn, defaultRefusal, defaultOf, defaultSlip}
-use Rattle.waterfall.specs.Declaring.{admission, roomsIn, Roomy, Chargeable, Calls}
-use Rattle.waterfall.specs.Reply.{refuse}
+use Rattle.figures.specs.Figures.{liveIn, inDefault, figure, replace, others}
+use Rattle.admission.specs.Admission.{misranked, admission}
+use Rattle.layers.specs.Layers.{gives, rooms}
+use Rattle.layers.specs.Parts.{Roomy, Chargeable, Calls}
+use Rattle.waterfall.specs.Register.{GivenBack}
+use Rattle.waterfall.specs.Default.{roomsOf, fallenCall, toPlace, onMargin, after1, onContribution, after2, onTranche1, after3, charges, after4, onTranche2, after5, onCalls, calls, shortfall, allocationOf, settledBy, settledOf, overdrawn, defaultRefusal, defaultOf, defaultSlip}
+use Rattle.waterfall.specs.Reply.{Says}
 use Rattle.waterfall.specs.declared.Allocation.{Allocation}
 use Rattle.waterfall.specs.declared.Outcome.{Outcome}
 use Rattle.waterfall.specs.declared.Register.{Register}
-use Rattle.waterfall.specs.declared.Reply.the-variants.{Allocated}
-use Rattle.waterfall.proofs.Admitted.{admitted}
-use Rattle.waterfall.proofs.Default.{unmarked, rooms-within, charges-within, calls-within, margin-gives, own-gives, tranche1-gives, tranche2-gives, never-overdrawn, charges-placed, charges-weighed}
-use Rattle.waterfall.proofs.Figures.{figure-at, figure-place}
-use Rattle.waterfall.proofs.Given.{length-calls, length-charged}
+use Rattle.waterfall.specs.declared.Reply.the-variants.{Refused, Allocated}
+use Rattle.admission.proofs.Admitted.{admitted, admission-row}
+use Rattle.layers.proofs.Calls.{layer-as}
+use Rattle.waterfall.proofs.Answer.{refused, accepted, says-allocated}
+use Rattle.waterfall.proofs.Default.{unmarked, rooms-within, charges-within, calls-within, margin-gives, contribution-gives, tranche1-gives, tranche2-gives, never-overdrawn, charges-placed, charges-weighed}
+use Rattle.figures.proofs.Figures.{figure-at, figure-place}
+use Rattle.waterfall.proofs.Given.{length-calls, length-charged, given-default}
 
 -- what is known of a default that is not refused, and what is promised of it --------------
 
@@ -38,7 +43,7 @@ pub record Placeable (r : Register) (member loss : ℕ) (ranks : List ℕ) : Typ
   pub member-most : member ≤ memberLimit
   pub loss-fits : loss ≤ sumLimit
   pub ranks-length : length ranks ≡ memberLimit
-  pub well-ranked : misranked (othersIn (r .status) member) ranks ≡ false
+  pub well-ranked : misranked (others (r .status) member) ranks ≡ false
 
 -- its answer and what its slip receives, and whether a share passes what it is drawn from
 pub record Places (r : Register) (member loss : ℕ) (ranks : List ℕ) (allocation : Allocation) (charged called : List ℕ) (over : Bool) : Type 0 where
@@ -48,57 +53,20 @@ pub record Places (r : Register) (member loss : ℕ) (ranks : List ℕ) (allocat
   pub over-is : over ≡ overdrawn r member loss ranks
 
 -- what can be taken from a register and called
-pub record Settles (r : Register) (member margin own first second : ℕ) (charges calls : List ℕ) : Type 0 where
+pub record Settles (r : Register) (member margin contribution tranche1 tranche2 : ℕ) (charges calls : List ℕ) : Type 0 where
   pub given : GivenBack r
   pub member-least : 0 < member
   pub member-most : member ≤ memberLimit
   pub margin-within : margin ≤ figure (r .margin) member
-  pub own-within : own ≤ figure (r .contribution) member
-  pub first-within : first ≤ r .first
-  pub second-within : second ≤ r .second
+  pub contribution-within : contribution ≤ figure (r .contribution) member
+  pub tranche1-within : tranche1 ≤ r .tranche1
+  pub tranche2-within : tranche2 ≤ r .tranche2
   pub charges-length : length charges ≡ memberLimit
   pub calls-length : length calls ≡ memberLimit
-  pub charges-within : (k : ℕ) → getD charges k 0 ≤ getD (replace (r .contribution) member (figure (r .contribution) member - own)) k 0
+  pub charges-within : (k : ℕ) → getD charges k 0 ≤ getD (replace (r .contribution) member (figure (r .contribution) member - contribution)) k 0
   pub calls-within : (k : ℕ) → getD (r .called) k 0 + getD calls k 0 ≤ amountLimit
 
 -- the layers ---------------------------------------------------------------------------
-
--- what a layer gives and leaves of the same sum and the same resource
-layer-as : (g l left left′ has has′ : ℕ) → (g ≡ gives left has) × (l ≡ left - gives left has) → left ≡ left′ → has ≡ has′
-    → (g ≡ gives left′ has′) × (l ≡ left′ - gives left′ has′)
-layer-as g l left left′ has has′ e p q = rw (← p, ← q) e
-
--- layer 6, by the rooms that were found and their total
-pub called-so : (found rooms cs : List ℕ) (left whole g l : ℕ) (over : Bool) → found ≡ rooms → whole ≡ total found → (g ≡ gives left whole) × (l ≡ left - gives left whole)
-    → cs ≡ splitOf g found → over ≡ exceeds cs found → Calls rooms left cs g l over
-called-so found rooms cs left whole g l over e w s q o =
-    let step = layer-as g l left left whole (total rooms) s refl (w ∙ ap total e) in
-    record {
-      total-is = step .0;
-      rest-is = step .1;
-      calls-are = q ∙ ap (splitOf g) e ∙ ap (λ (n : ℕ). splitOf n rooms) (step .0);
-      over-is = o ∙ ap (exceeds cs) e;
-    }
-
--- layer 6 where nothing is left
-pub called-none : (rooms : List ℕ) (left : ℕ) → length rooms ≡ memberLimit → left ≡ 0 → Calls rooms left (replicate memberLimit 0) 0 0 false
-called-none rooms left h e =
-    let g : gives left (total rooms) ≡ 0 = omega arith in
-    record {
-      total-is = sym g;
-      rest-is = omega arith;
-      calls-are =
-          zeros
-          memberLimit
-          (splitOf (gives left (total rooms)) rooms)
-          (length-split (gives left (total rooms)) rooms ∙ h)
-          (total-within (gives left (total rooms)) rooms (omega arith) ∙ g);
-      over-is = sym (exceeds-none (replicate memberLimit 0) rooms (λ k. omega (arith, getD-zeros memberLimit k)));
-    }
-
--- the calls add to what layer 6 gives
-pub whole-called : (rooms : List ℕ) (left : ℕ) (cs : List ℕ) (t rest : ℕ) (over : Bool) → Calls rooms left cs t rest over → t ≡ total cs
-whole-called rooms left cs t rest over s = s .total-is ∙ sym (ap total (s .calls-are) ∙ total-within (gives left (total rooms)) rooms (omega arith))
 
 module _ (r : Register) (member loss : ℕ) (ranks : List ℕ) (p : Placeable r member loss ranks) where
   abbrev at : ℕ
@@ -118,21 +86,21 @@ module _ (r : Register) (member loss : ℕ) (ranks : List ℕ) (p : Placeable r 
 
   module _ (g1 l1 : ℕ) (e1 : (g1 ≡ gives (loss + getD (r .outstanding) at 0) (getD (r .margin) at 0)) × (l1 ≡ (loss + getD (r .outstanding) at 0) - gives (loss + getD (r .outstanding) at 0) (getD (r .margin) at 0)))
       (g2 l2 : ℕ) (e2 : (g2 ≡ gives l1 (getD (r .contribution) at 0)) × (l2 ≡ l1 - gives l1 (getD (r .contribution) at 0)))
-      (g3 l3 : ℕ) (e3 : (g3 ≡ gives l2 (r .first)) × (l3 ≡ l2 - gives l2 (r .first))) where
+      (g3 l3 : ℕ) (e3 : (g3 ≡ gives l2 (r .tranche1)) × (l3 ≡ l2 - gives l2 (r .tranche1))) where
     pub left3-fits : l3 ≤ allocationLimit
     left3-fits = omega (arith, e1, e2, e3, outstanding-fits, p .loss-fits)
 
-    first-is : (g1 ≡ onMargin r member loss) × (l1 ≡ after1 r member loss)
+    layer1-is : (g1 ≡ onMargin r member loss) × (l1 ≡ after1 r member loss)
     unfolding onMargin after1 toPlace fallenCall
-    first-is = layer-as _ _ _ _ _ _ e1 (ap (λ (n : ℕ). loss + n) (read (r .outstanding))) (read (r .margin))
+    layer1-is = layer-as _ _ _ _ _ _ e1 (ap (λ (n : ℕ). loss + n) (read (r .outstanding))) (read (r .margin))
 
-    second-is : (g2 ≡ onOwnFund r member loss) × (l2 ≡ after2 r member loss)
-    unfolding onOwnFund after2
-    second-is = layer-as _ _ _ _ _ _ e2 (first-is .1) (read (r .contribution))
+    layer2-is : (g2 ≡ onContribution r member loss) × (l2 ≡ after2 r member loss)
+    unfolding onContribution after2
+    layer2-is = layer-as _ _ _ _ _ _ e2 (layer1-is .1) (read (r .contribution))
 
-    third-is : (g3 ≡ onTranche1 r member loss) × (l3 ≡ after3 r member loss)
+    layer3-is : (g3 ≡ onTranche1 r member loss) × (l3 ≡ after3 r member loss)
     unfolding onTranche1 after3
-    third-is = layer-as _ _ _ _ _ _ e3 (second-is .1) refl
+    layer3-is = layer-as _ _ _ _ _ _ e3 (layer2-is .1) refl
 
     pub chargeable : Chargeable marked (r .contribution) l3 ranks
     chargeable =
@@ -146,25 +114,25 @@ module _ (r : Register) (member loss : ℕ) (ranks : List ℕ) (p : Placeable r 
           well-ranked = p .well-ranked;
         }
 
-    module _ (ch : List ℕ) (t4 : ℕ) (e4 : (ch ≡ chargesOf l3 (keep (map (eqb live) marked) (r .contribution)) ranks) × (t4 ≡ total ch)) where
-      pub fourth-is : ch ≡ charges r member loss ranks
-      unfolding charges others
-      fourth-is = e4 .0 ∙ ap (λ (n : ℕ). chargesOf n (keep (map (eqb live) marked) (r .contribution)) ranks) (third-is .1)
+    module _ (ch : List ℕ) (t4 : ℕ) (e4 : (ch ≡ chargesOf l3 (keep (liveIn marked) (r .contribution)) ranks) × (t4 ≡ total ch)) where
+      pub layer4-is : ch ≡ charges r member loss ranks
+      unfolding charges
+      layer4-is = e4 .0 ∙ ap (λ (n : ℕ). chargesOf n (keep (liveIn marked) (r .contribution)) ranks) (layer3-is .1)
 
       left4-is : l3 - t4 ≡ after4 r member loss ranks
       unfolding after4
-      left4-is = rw (third-is .1, e4 .1, fourth-is)
+      left4-is = rw (layer3-is .1, e4 .1, layer4-is)
 
       pub within-left : t4 ≤ l3
-      within-left = omega (arith, e4 .1, ap total fourth-is, third-is .1, charges-placed r member loss ranks)
+      within-left = omega (arith, e4 .1, ap total layer4-is, layer3-is .1, charges-placed r member loss ranks)
 
-      module _ (g5 l5 : ℕ) (e5 : (g5 ≡ gives (l3 - t4) (r .second)) × (l5 ≡ (l3 - t4) - gives (l3 - t4) (r .second))) where
+      module _ (g5 l5 : ℕ) (e5 : (g5 ≡ gives (l3 - t4) (r .tranche2)) × (l5 ≡ (l3 - t4) - gives (l3 - t4) (r .tranche2))) where
         pub left5-fits : l5 ≤ allocationLimit
         left5-fits = omega (arith, e5, left3-fits)
 
-        fifth-is : (g5 ≡ onTranche2 r member loss ranks) × (l5 ≡ after5 r member loss ranks)
+        layer5-is : (g5 ≡ onTranche2 r member loss ranks) × (l5 ≡ after5 r member loss ranks)
         unfolding onTranche2 after5
-        fifth-is = layer-as _ _ _ _ _ _ e5 left4-is refl
+        layer5-is = layer-as _ _ _ _ _ _ e5 left4-is refl
 
         pub roomy : Roomy marked (r .cap) (r .called)
         roomy =
@@ -177,40 +145,40 @@ module _ (r : Register) (member loss : ℕ) (ranks : List ℕ) (p : Placeable r 
               called-fits = g .called-fits;
             }
 
-        pub placed-so : (cs : List ℕ) (t6 l6 : ℕ) (o o6 : Bool) → Calls (roomsIn marked (r .cap) (r .called)) l5 cs t6 l6 o6 → o ≡ exceeds ch (r .contribution)
+        pub placed-so : (cs : List ℕ) (t6 l6 : ℕ) (o o6 : Bool) → Calls (rooms (liveIn marked) (r .cap) (r .called)) l5 cs t6 l6 o6 → o ≡ exceeds ch (r .contribution)
             → Places r member loss ranks
             (record {
               fallen = getD (r .outstanding) at 0;
               margin = g1;
-              own = g2;
+              contribution = g2;
               tranche1 = g3;
               members = t4;
               tranche2 = g5;
               calls = t6;
               short = l6;
             }) ch cs (o || o6)
-        unfolding allocationOf fallenCall onCalls calls shortfall rooms others
+        unfolding allocationOf fallenCall onCalls calls shortfall roomsOf
         placed-so cs t6 l6 o o6 s v =
-            let five = fifth-is .1 in
+            let five = layer5-is .1 in
             let called : cs ≡ calls r member loss ranks =
-            s .calls-are ∙ ap (λ (n : ℕ). splitOf (gives n (total (roomsIn marked (r .cap) (r .called)))) (roomsIn marked (r .cap) (r .called))) five in
+            s .calls-are ∙ ap (λ (n : ℕ). splitOf (gives n (total (rooms (liveIn marked) (r .cap) (r .called)))) (rooms (liveIn marked) (r .cap) (r .called))) five in
             record {
               allocation-is =
                   rw (
                     read (r .outstanding),
-                    first-is .0,
-                    second-is .0,
-                    third-is .0,
+                    layer1-is .0,
+                    layer2-is .0,
+                    layer3-is .0,
                     e4 .1,
-                    fourth-is,
-                    fifth-is .0,
+                    layer4-is,
+                    layer5-is .0,
                     s .total-is,
                     s .rest-is,
                     five,
                   );
-              charges-are = fourth-is;
+              charges-are = layer4-is;
               calls-are = called;
-              over-is = rw (v, fourth-is, s .over-is, called);
+              over-is = rw (v, layer4-is, s .over-is, called);
             }
 
   -- what is settled -----------------------------------------------------------------------
@@ -219,9 +187,9 @@ module _ (r : Register) (member loss : ℕ) (ranks : List ℕ) (p : Placeable r 
   uncharged : getD (charges r member loss ranks) at 0 ≡ 0
   uncharged =
       let d : getD marked at 0 ≡ inDefault = getD-set-same (r .status) at inDefault 0 (omega (arith, p .member-least, p .member-most, p .given .status-length)) in
-      omega (arith, charges-weighed r member loss ranks at, unkept (others r member) (r .contribution) at (unmarked r member at d))
+      omega (arith, charges-weighed r member loss ranks at, unkept (others (r .status) member) (r .contribution) at (unmarked r member at d))
 
-  pub settles : Settles r member (onMargin r member loss) (onOwnFund r member loss) (onTranche1 r member loss) (onTranche2 r member loss ranks) (charges r member loss ranks) (calls r member loss ranks)
+  pub settles : Settles r member (onMargin r member loss) (onContribution r member loss) (onTranche1 r member loss) (onTranche2 r member loss ranks) (charges r member loss ranks) (calls r member loss ranks)
   settles =
       let g = p .given in
       record {
@@ -229,9 +197,9 @@ module _ (r : Register) (member loss : ℕ) (ranks : List ℕ) (p : Placeable r 
         member-least = p .member-least;
         member-most = p .member-most;
         margin-within = margin-gives r member loss ranks;
-        own-within = own-gives r member loss ranks;
-        first-within = tranche1-gives r member loss ranks;
-        second-within = tranche2-gives r member loss ranks;
+        contribution-within = contribution-gives r member loss ranks;
+        tranche1-within = tranche1-gives r member loss ranks;
+        tranche2-within = tranche2-gives r member loss ranks;
         charges-length = length-charged r g member loss ranks (p .ranks-length);
         calls-length = length-calls r g member loss ranks;
         charges-within =
@@ -242,7 +210,7 @@ module _ (r : Register) (member loss : ℕ) (ranks : List ℕ) (p : Placeable r 
 
   -- the same by what was placed
   pub settles-so : (a : Allocation) (ch cs : List ℕ) (over : Bool) → Places r member loss ranks a ch cs over
-      → Settles r member (a .margin) (a .own) (a .tranche1) (a .tranche2) ch cs
+      → Settles r member (a .margin) (a .contribution) (a .tranche1) (a .tranche2) ch cs
   unfolding allocationOf
   settles-so a ch cs over w = rw (w .allocation-is, w .charges-are, w .calls-are) settles
 
@@ -254,59 +222,51 @@ module _ (r : Register) (member loss : ℕ) (ranks slip : List ℕ) where
 
   row : Row (λ n. n) (check (overdrawn r member loss ranks) 19 0) early (defaultRefusal r member loss ranks slip)
   unfolding defaultRefusal
-  row =
-      row-check _ _ _ 11 (omega arith)
-      (row-check _ _ _ 12 (omega arith)
-      (row-check _ _ _ 13 (omega arith)
-      (row-check _ _ _ 14 (omega arith)
-      (row-check _ _ _ 15 (omega arith)
-      (row-end _ _)))))
+  row = admission-row (r .status) member loss ranks (length slip) _
 
-  -- a default that is refused leaves register and slip
-  refused-default : (n : ℕ) → n ≡ defaultRefusal r member loss ranks slip → 0 < n
-      → (refuse n r ≡ defaultOf r member loss ranks slip) × (slip ≡ defaultSlip r member loss ranks slip)
+  -- a default's promise, with the slip that it leaves
+  abbrev Declared : Outcome → List ℕ → Type 0
+  Declared o s =
+      (o ≡ defaultOf r member loss ranks slip)
+      × ((s ≡ defaultSlip r member loss ranks slip) × (GivenBack (o .register) × Says (o .reply) (defaultRefusal r member loss ranks slip) (allocationOf r member loss ranks)))
+
+  refused-default : GivenBack r → (n : ℕ) → n ≡ defaultRefusal r member loss ranks slip → 0 < n → Declared (record { reply = Refused n; register = r }) slip
   unfolding defaultOf defaultSlip
-  refused-default n e h = (
-    rw (← e) (check-lt _ _ 0 n h refl),
-    rw (← e) (check-lt _ _ 0 n h refl),
-  )
+  refused-default g n e h =
+      let p = refused _ r _ _ _ g n e h in
+      (p .0, (rw (← e) (check-lt _ _ 0 n h refl), p .1))
 
-  pub refused-early : (n : ℕ) → n ≡ early → 0 < n → (refuse n r ≡ defaultOf r member loss ranks slip) × (slip ≡ defaultSlip r member loss ranks slip)
-  refused-early n e h = refused-default n (e ∙ sym (row .refused (omega (arith, e)))) h
+  pub refused-early : GivenBack r → (n : ℕ) → n ≡ early → 0 < n → Declared (record { reply = Refused n; register = r }) slip
+  refused-early g n e h = refused-default g n (e ∙ sym (row .refused (omega (arith, e)))) h
 
-  pub refused-late : early ≡ 0 → overdrawn r member loss ranks ≡ true → (refuse 19 r ≡ defaultOf r member loss ranks slip) × (slip ≡ defaultSlip r member loss ranks slip)
-  refused-late e o = refused-default 19 (check-true _ _ _ o refl ∙ sym (row .passed e)) (omega arith)
+  pub refused-late : GivenBack r → early ≡ 0 → overdrawn r member loss ranks ≡ true → Declared (record { reply = Refused 19; register = r }) slip
+  refused-late g e o = refused-default g 19 (check-true _ _ _ o refl ∙ sym (row .passed e)) (omega arith)
 
   none-refused : early ≡ 0 → overdrawn r member loss ranks ≡ false → defaultRefusal r member loss ranks slip ≡ 0
   none-refused e o = row .passed e ∙ sym (check-false _ _ _ o refl)
 
-  accepted-default : early ≡ 0 → overdrawn r member loss ranks ≡ false
-      → (_≡_ {A = Outcome} (record { reply = Allocated (allocationOf r member loss ranks); register = settledOf r member loss ranks }) (defaultOf r member loss ranks slip))
-      × (charges r member loss ranks ++ calls r member loss ranks ++ drop (memberLimit + memberLimit) slip ≡ defaultSlip r member loss ranks slip)
+  accepted-default : GivenBack r → early ≡ 0 → overdrawn r member loss ranks ≡ false
+      → Declared (record { reply = Allocated (allocationOf r member loss ranks); register = settledOf r member loss ranks }) (charges r member loss ranks ++ calls r member loss ranks ++ drop (memberLimit + memberLimit) slip)
   unfolding defaultOf defaultSlip
-  accepted-default e o =
-      let n = none-refused e o in (
-        rw n (check-false _ _ false refl refl),
-        rw n (check-false _ _ false refl refl),
-      )
+  accepted-default g e o =
+      let n = none-refused e o in
+      let p = accepted _ r _ _ _ g 0 (sym n) (omega arith) (given-default r member loss ranks slip g) (says-allocated _) in
+      (p .0, (rw n (check-false _ _ false refl refl), p .1))
 
   -- the same by what was placed, settled and written
-  pub accepted-so : (a : Allocation) (ch cs : List ℕ) (over : Bool) → Places r member loss ranks a ch cs over → early ≡ 0 → over ≡ false
-      → (x : Register) → x ≡ settledBy r member (a .margin) (a .own) (a .tranche1) (a .tranche2) ch cs
+  pub accepted-so : GivenBack r → (a : Allocation) (ch cs : List ℕ) (over : Bool) → Places r member loss ranks a ch cs over → early ≡ 0 → over ≡ false
+      → (x : Register) → x ≡ settledBy r member (a .margin) (a .contribution) (a .tranche1) (a .tranche2) ch cs
       → (s : List ℕ) → s ≡ ch ++ cs ++ drop (memberLimit + memberLimit) slip
-      → (_≡_ {A = Outcome} (record { reply = Allocated a; register = x }) (defaultOf r member loss ranks slip)) × (s ≡ defaultSlip r member loss ranks slip)
+      → Declared (record { reply = Allocated a; register = x }) s
   unfolding allocationOf settledOf
-  accepted-so a ch cs over w e o x q s z =
-      let d = accepted-default e (sym (w .over-is) ∙ o) in (
-        rw (q, w .allocation-is, w .charges-are, w .calls-are) (d .0),
-        z ∙ rw (w .charges-are, w .calls-are) (d .1),
-      )
+  accepted-so g a ch cs over w e o x q s z =
+      let d = accepted-default g e (sym (w .over-is) ∙ o) in
+      rw (z, q, w .allocation-is, w .charges-are, w .calls-are) d
 
   -- what is known once 11 to 15 are passed
   pub placeable : GivenBack r → early ≡ 0 → Placeable r member loss ranks × (memberLimit + memberLimit ≤ length slip)
-  unfolding others
   placeable g e =
-      let a = admitted r member loss ranks slip (none-refused e (never-overdrawn r member loss ranks)) in
+      let a = admitted (r .status) member loss ranks (length slip) 0 e in
       let m = figure-place (r .status) member _ refl (a .present) in (
         record {
           given = g;

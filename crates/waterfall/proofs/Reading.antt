@@ -11,11 +11,12 @@ use Rattle.sheets.specs.Bytes.{recordAt}
 use Rattle.sheets.specs.Sheet.{refusal, accepted, missized, recordCount, memberRefusal}
 use Rattle.sheets.specs.declared.Refusal.{Refusal}
 use Rattle.sheets.proofs.Laws.{InOrder}
-use Rattle.waterfall.specs.Register.{live, GivenBack}
+use Rattle.figures.specs.Figures.{live}
+use Rattle.waterfall.specs.Register.{GivenBack}
 use Rattle.waterfall.specs.Opening.{enteredOf, enteredFrom, unentered, openingRegister, openingRefusal, refusedOpening, openedOf}
 use Rattle.waterfall.specs.declared.Register.{Register}
 use Rattle.waterfall.specs.declared.Opened.{Opened}
-use Rattle.waterfall.proofs.Opening.{given-opened}
+use Rattle.waterfall.proofs.Entered.{given-opened}
 
 -- as it begins
 pub entered-begins : (sheet : List ℕ) (g : ℕ) → enteredFrom (recordCount sheet - 0) sheet 0 (unentered g) ≡ openingRegister sheet g
@@ -48,8 +49,8 @@ pub entered : (r : Register) (last : ℕ) (s : List ℕ) (member first second th
       cap = set (r .cap) (member - 1) third;
       outstanding = r .outstanding;
       called = r .called;
-      first = r .first;
-      second = r .second;
+      tranche1 = r .tranche1;
+      tranche2 = r .tranche2;
     }
 unfolding enteredOf
 entered r last s member first second third i = rw (i .member-is, i .first-is, i .second-is, i .third-is)

@@ -9,15 +9,18 @@ use Rattle.ranks.specs.Ranks.{chargesFrom, chargesOf}
 use Rattle.sheets.specs.Bytes.{le32}
 use Rattle.sheets.specs.Members.{outside, missing, excessive, entryOf}
 use Rattle.sheets.specs.Sheet.{missized, memberRefusalFrom, memberRefusal}
-use Rattle.waterfall.specs.Opening.{firstTranche, secondTranche, enteredOf, enteredFrom, openingRegister, openingRefusal, openedOf}
-use Rattle.waterfall.specs.Default.{others, rooms, fallenCall, toPlace, onMargin, after1, onOwnFund, after2, onTranche1, after3, charges, after4, onTranche2, after5, onCalls, calls, shortfall, allocationOf, settledOf, misranked, defaultRefusal, defaultOf, defaultSlip}
+use Rattle.waterfall.specs.Opening.{tranche1Of, tranche2Of, enteredOf, enteredFrom, openingRegister, openingRefusal, openedOf}
+use Rattle.figures.specs.Figures.{others}
+use Rattle.admission.specs.Admission.{misranked}
+use Rattle.waterfall.specs.Default.{roomsOf, fallenCall, toPlace, onMargin, after1, onContribution, after2, onTranche1, after3, charges, after4, onTranche2, after5, onCalls, calls, shortfall, allocationOf, settledOf, defaultRefusal, defaultOf, defaultSlip}
+use Rattle.waterfall.specs.Reply.{judged}
 use Rattle.waterfall.specs.declared.Register.{Register}
 use Rattle.waterfall.specs.declared.Outcome.{Outcome}
 use Rattle.waterfall.specs.declared.Reply.{Reply}
 use Rattle.waterfall.specs.declared.Reply.the-variants.{Allocated}
 
 -- "G = 22 gives 13 and 9."
-tranches : (firstTranche 22 ≡ 13) × (secondTranche 22 ≡ 9)
+tranches : (tranche1Of 22 ≡ 13) × (tranche2Of 22 ≡ 9)
 tranches = (refl, refl)
 
 -- an amount's bytes, and a record's
@@ -42,14 +45,14 @@ unfoldable pub ranked : ℕ → ℕ → ℕ → ℕ → List ℕ
 ranked a b c d = a ∷ b ∷ c ∷ d ∷ replicate 60 255
 
 -- "Default of 1, loss 100,000, ranks 2:1, 3:2, 4:2", "Next default of 3, loss 60,000, ranks 2:1, 4:1", "Next default of 2, loss 0, rank 4:1"
-unfoldable pub first : Outcome
-first = defaultOf register 1 100_000 (ranked 255 1 2 2) slip
+unfoldable pub default1 : Outcome
+default1 = defaultOf register 1 100_000 (ranked 255 1 2 2) slip
 
-unfoldable pub second : Outcome
-second = defaultOf (first .register) 3 60_000 (ranked 255 1 255 1) slip
+unfoldable pub default2 : Outcome
+default2 = defaultOf (default1 .register) 3 60_000 (ranked 255 1 255 1) slip
 
-unfoldable pub third : Outcome
-third = defaultOf (second .register) 2 0 (ranked 255 255 255 1) slip
+unfoldable pub default3 : Outcome
+default3 = defaultOf (default2 .register) 2 0 (ranked 255 255 255 1) slip
 
 -- the six layers with fallen call and shortfall
 unfoldable pub answers : ℕ → ℕ → ℕ → ℕ → ℕ → ℕ → ℕ → ℕ → Reply
@@ -57,7 +60,7 @@ answers fallen l1 l2 l3 l4 l5 l6 short =
     Allocated (record {
       fallen = fallen;
       margin = l1;
-      own = l2;
+      contribution = l2;
       tranche1 = l3;
       members = l4;
       tranche2 = l5;
@@ -65,10 +68,10 @@ answers fallen l1 l2 l3 l4 l5 l6 short =
       short = short;
     })
 
-pub three-defaults : (first .reply ≡ answers 0 50_000 20_000 13_200 16_800 0 0 0)
+pub three-defaults : (default1 .reply ≡ answers 0 50_000 20_000 13_200 16_800 0 0 0)
     × (take 4 (defaultSlip register 1 100_000 (ranked 255 1 2 2) slip) ≡ 0 ∷ 0 ∷ 5_600 ∷ 11_200 ∷ [])
-    × (second .reply ≡ answers 0 0 4_400 0 38_800 8_800 8_000 0)
-    × (take 4 (drop 64 (defaultSlip (first .register) 3 60_000 (ranked 255 1 255 1) slip)) ≡ 0 ∷ 8_000 ∷ 0 ∷ 0 ∷ [])
-    × (third .reply ≡ answers 8_000 0 0 0 0 0 0 8_000)
-unfolding sheet row amount register slip ranked first second third answers openedOf openingRefusal memberRefusal memberRefusalFrom entryOf outside missing excessive missized le32 check openingRegister enteredFrom enteredOf defaultOf defaultSlip defaultRefusal misranked exceeds others rooms fallenCall toPlace onMargin after1 onOwnFund after2 onTranche1 after3 charges after4 onTranche2 after5 onCalls calls shortfall allocationOf settledOf chargesOf chargesFrom splitOf shareOf
+    × (default2 .reply ≡ answers 0 0 4_400 0 38_800 8_800 8_000 0)
+    × (take 4 (drop 64 (defaultSlip (default1 .register) 3 60_000 (ranked 255 1 255 1) slip)) ≡ 0 ∷ 8_000 ∷ 0 ∷ 0 ∷ [])
+    × (default3 .reply ≡ answers 8_000 0 0 0 0 0 0 8_000)
+unfolding sheet row amount register slip ranked default1 default2 default3 answers openedOf openingRefusal memberRefusal memberRefusalFrom entryOf outside missing excessive missized le32 check openingRegister enteredFrom enteredOf judged defaultOf defaultSlip defaultRefusal misranked exceeds roomsOf fallenCall toPlace onMargin after1 onContribution after2 onTranche1 after3 charges after4 onTranche2 after5 onCalls calls shortfall allocationOf settledOf chargesOf chargesFrom splitOf shareOf
 three-defaults = (refl, refl, refl, refl, refl)

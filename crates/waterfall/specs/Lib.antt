@@ -1,10 +1,8 @@
 -- The definitions that the contracts of `waterfall` cite.
 pub mod Register
 pub mod Opening
-pub mod Checks
 pub mod Reply
 pub mod Default
-pub mod Declaring
 pub mod Calls
 pub mod View
 pub mod Examples

@@ -8,16 +8,17 @@ use Rattle.sheets.specs.Bytes.{recordAt}
 use Rattle.sheets.specs.Members.{memberAt, firstAt, secondAt, thirdAt}
 use Rattle.sheets.specs.Sheet.{refusal, missized, recordCount, memberRefusal}
 use Rattle.sheets.specs.declared.Refusal.{Refusal}
-use Rattle.waterfall.specs.Register.{live, replace, none, emptyRegister}
+use Rattle.figures.specs.Figures.{live, replace, none}
+use Rattle.waterfall.specs.Register.{emptyRegister}
 use Rattle.waterfall.specs.declared.Register.{Register}
 use Rattle.waterfall.specs.declared.Opened.{Opened}
 
 -- "The first tranche is 60G/100 rounded down, the second is the rest"
-abbrev pub firstTranche : ℕ → ℕ
-firstTranche g = 60 * g / 100
+abbrev pub tranche1Of : ℕ → ℕ
+tranche1Of g = 60 * g / 100
 
-abbrev pub secondTranche : ℕ → ℕ
-secondTranche g = g - firstTranche g
+abbrev pub tranche2Of : ℕ → ℕ
+tranche2Of g = g - tranche1Of g
 
 -- "Everyone is live and nobody has been called; the opening contribution is the requirement.": the register with a record's member entered
 unfoldable pub enteredOf : Register → List ℕ → Register
@@ -30,8 +31,8 @@ enteredOf r s =
       cap = replace (r .cap) (memberAt s) (thirdAt s);
       outstanding = r .outstanding;
       called = r .called;
-      first = r .first;
-      second = r .second;
+      tranche1 = r .tranche1;
+      tranche2 = r .tranche2;
     }
 
 -- with n records entered, from record i on
@@ -54,8 +55,8 @@ unentered g =
       cap = none;
       outstanding = none;
       called = none;
-      first = firstTranche g;
-      second = secondTranche g;
+      tranche1 = tranche1Of g;
+      tranche2 = tranche2Of g;
     }
 
 unfoldable pub openingRegister : List ℕ → ℕ → Register

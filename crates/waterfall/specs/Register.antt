@@ -1,32 +1,10 @@
--- The register: a list of 64 figures of each kind, by member number.
-use Prim.Native.Nat.{ℕ, zero, suc, _+_, _-_, _≤_}
+-- The register: a list of 64 figures of each kind, by member number, and the two tranches.
+use Prim.Native.Nat.{ℕ, _+_, _≤_}
 use mathlib.Core.Path.{_≡_}
-use mathlib.Core.List.{List}
-use lib.ListN.{length, getD, set, replicate}
+use lib.ListN.{length, getD}
 use Rattle.lists.specs.Limits.{memberLimit, amountLimit, sumLimit}
+use Rattle.figures.specs.Figures.{none, inDefault}
 use Rattle.waterfall.specs.declared.Register.{Register}
-
--- the status of a member
-abbrev pub absent : ℕ
-absent = 0
-
-abbrev pub live : ℕ
-live = 1
-
-abbrev pub inDefault : ℕ
-inDefault = 2
-
--- "Members are numbered 1 to 64.": the figure of a member, and 0 of every other number
-abbrev pub figure : List ℕ → ℕ → ℕ
-figure xs zero = 0
-figure xs (suc k) = getD xs k 0
-
--- the figures with that of a member replaced
-abbrev pub replace : List ℕ → ℕ → ℕ → List ℕ
-replace xs member x = set xs (member - 1) x
-
-abbrev pub none : List ℕ
-none = replicate memberLimit 0
 
 -- "A refused opening hands back a register with no members and both tranches 0."
 abbrev pub emptyRegister : Register
@@ -39,8 +17,8 @@ emptyRegister =
       cap = none;
       outstanding = none;
       called = none;
-      first = 0;
-      second = 0;
+      tranche1 = 0;
+      tranche2 = 0;
     }
 
 -- What every register that an opening or a call gave back satisfies: the only thing that a call may require.
@@ -60,4 +38,4 @@ pub record GivenBack (r : Register) : Type 0 where
   pub called-fits : (k : ℕ) → getD (r .called) k 0 ≤ getD (r .cap) k 0
   pub outstanding-fits : (k : ℕ) → getD (r .outstanding) k 0 ≤ getD (r .called) k 0
   pub defaulter-owes-none : (k : ℕ) → getD (r .status) k 0 ≡ inDefault → getD (r .outstanding) k 0 ≡ 0
-  pub tranches-fit : r .first + r .second ≤ sumLimit
+  pub tranches-fit : r .tranche1 + r .tranche2 ≤ sumLimit

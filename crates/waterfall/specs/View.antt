@@ -1,6 +1,6 @@
 -- What a host prints of a register.
 use Prim.Native.Nat.{ℕ}
-use Rattle.waterfall.specs.Register.{figure}
+use Rattle.figures.specs.Figures.{figure}
 use Rattle.waterfall.specs.declared.Register.{Register}
 use Rattle.waterfall.specs.declared.view.MemberView.{MemberView}
 use Rattle.waterfall.specs.declared.view.TranchesView.{TranchesView}
@@ -19,4 +19,4 @@ figuresOf r member =
     }
 
 abbrev pub tranchesOf : Register → TranchesView
-tranchesOf r = record { first = r .first; second = r .second }
+tranchesOf r = record { tranche1 = r .tranche1; tranche2 = r .tranche2 }

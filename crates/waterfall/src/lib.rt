@@ -1,17 +1,16 @@
 // The register and the calls of a drill by value: document 01, "The opening register" and "Declaring a default".
-mod checks;
 pub mod close;
 pub mod declaration;
+pub mod opening;
 pub mod payment;
 pub mod replenishment;
-pub mod sheet;
 pub mod view;
 
 use sheets::Refusal;
 
 // The register. Its fields are private: hosts can make none. A member's figures stand at its number less 1.
 pub struct Register {
-    // 0: not in the register; 1: live; 2: in default
+    // figures::ABSENT, LIVE or IN_DEFAULT
     status: [u8; 64],
     margin: [u64; 64],
     contribution: [u64; 64],
@@ -20,9 +19,9 @@ pub struct Register {
     outstanding: [u64; 64],
     // what was called since the last close
     called: [u64; 64],
-    // the tranches of the own contribution
-    first: u64,
-    second: u64,
+    // of our own contribution
+    tranche1: u64,
+    tranche2: u64,
 }
 
 // What an opening hands back.
@@ -35,7 +34,7 @@ pub struct Opened {
 pub struct Allocation {
     pub fallen: u64,
     pub margin: u64,
-    pub own: u64,
+    pub contribution: u64,
     pub tranche1: u64,
     pub members: u64,
     pub tranche2: u64,

@@ -2,17 +2,19 @@
 use crate::Outcome;
 use crate::Register;
 use crate::Reply;
-use crate::checks::amount_refusal;
-use crate::checks::figure_of;
-use crate::checks::replace;
+use admission::amount_refusal;
+use figures::figure_of;
+use figures::replace;
 ghost use mathlib.Core.Path.{_≡_};
 ghost use Rattle.waterfall.specs.Register.{GivenBack};
-ghost use Rattle.waterfall.specs.Calls.{paymentOf};
+ghost use Rattle.waterfall.specs.Calls.{paymentRefusal, paymentOf};
+ghost use Rattle.waterfall.specs.Reply.{Says, nothing};
 
 pub fn pay(register: Register, member: u64, amount: u64) -> Outcome
     requires { ⌜ GivenBack register ⌝ }
     ensures { λ r. ⌜ r ≡ paymentOf register member amount ⌝ }
     ensures { λ r. ⌜ GivenBack (r .register) ⌝ }
+    ensures { λ r. ⌜ Says (r .reply) (paymentRefusal register member amount) nothing ⌝ }
 {
     let due = figure_of(&register.outstanding, member);
     let number = amount_refusal(&register.status, member, amount, due, 16);

@@ -3,7 +3,7 @@ use crate::Register;
 ghost use mathlib.Core.Path.{_≡_};
 ghost use Rattle.waterfall.specs.View.{figuresOf, tranchesOf};
 
-// A member's figures, all 0 for a number that is not in the register. Status 0: not in the register; 1: live; 2: in default.
+// A member's figures, all 0 for a number that is not in the register. The status is figures::ABSENT, LIVE or IN_DEFAULT.
 pub struct MemberView {
     pub status: u8,
     pub margin: u64,
@@ -17,8 +17,8 @@ pub struct MemberView {
 
 // The tranches of the own contribution.
 pub struct TranchesView {
-    pub first: u64,
-    pub second: u64,
+    pub tranche1: u64,
+    pub tranche2: u64,
 }
 
 pub fn member(register: Register, member: u64) -> MemberView
@@ -53,7 +53,7 @@ pub fn tranches(register: Register) -> TranchesView
     ensures { λ r. ⌜ r ≡ tranchesOf register ⌝ }
 {
     TranchesView {
-        first: register.first,
-        second: register.second,
+        tranche1: register.tranche1,
+        tranche2: register.tranche2,
     }
 }

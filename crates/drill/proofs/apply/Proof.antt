@@ -1,7 +1,7 @@
 -- `drill::apply` meets its contract: each case by the contract of the call that it makes.
 use mathlib.Core.Path.{refl}
 use borrow.Author.Needs.{needs}
-use Rattle.drill.specs.Drill.{appliedOf, slipLeft}
+use Rattle.drill.specs.Drill.{appliedOf, slipLeft, refusalOf, allocatedBy}
 use Rattle.drill.proofs.apply.Statement.{statement}
 use Rattle.drill.proofs.apply.Tie as tie
 
@@ -33,25 +33,25 @@ same-length : tie.Need-same-length
 same-length c = search needs
 
 returns : tie.Need-returns
-unfolding appliedOf slipLeft
+unfolding appliedOf slipLeft refusalOf allocatedBy
 returns c =
     let called = c .before .before in
     let is = called .before .before .before .call .given .1 in
     let d = called .declare .ensures in
-    (rw is (d .0), (rw is (d .1 .0), d .1 .1))
+    (rw is (d .0), (rw is (d .1 .0), (d .1 .1 .0, rw is (d .1 .1 .1))))
 
 returns-2 : tie.Need-returns-2
-unfolding appliedOf slipLeft
-returns-2 c = let is = c .before .before .call2 .given .1 in (rw is (c .pay .ensures .0), (rw is refl, c .pay .ensures .1))
+unfolding appliedOf slipLeft refusalOf allocatedBy
+returns-2 c = let is = c .before .before .call2 .given .1 in (rw is (c .pay .ensures .0), (rw is refl, (c .pay .ensures .1 .0, rw is (c .pay .ensures .1 .1))))
 
 returns-3 : tie.Need-returns-3
-unfolding appliedOf slipLeft
+unfolding appliedOf slipLeft refusalOf allocatedBy
 returns-3 c =
-    let is = c .before .before .call3 .given .1 in (rw is (c .replenish .ensures .0), (rw is refl, c .replenish .ensures .1))
+    let is = c .before .before .call3 .given .1 in (rw is (c .replenish .ensures .0), (rw is refl, (c .replenish .ensures .1 .0, rw is (c .replenish .ensures .1 .1))))
 
 returns-4 : tie.Need-returns-4
-unfolding appliedOf slipLeft
-returns-4 c = let is = c .before .enum-told .given .1 in (rw is (c .close .ensures .0), (rw is refl, c .close .ensures .1))
+unfolding appliedOf slipLeft refusalOf allocatedBy
+returns-4 c = let is = c .before .enum-told .given .1 in (rw is (c .close .ensures .0), (rw is refl, (c .close .ensures .1 .0, rw is (c .close .ensures .1 .1))))
 
 pub apply-spec : {M : Type 1} → statement M
 apply-spec =

@@ -25,7 +25,7 @@ use denote.Laws.{Is, shows}
 use denote.Memory.{mem}
 use denote.Ref.{RefT, MutRef, ptr-vals, mut-tells}
 use denote.Signature.{plain}
-use denote.Steps.{opens, closes, owned, peeks, heard, nothing}
+use denote.Steps.{opens, closes, owned, peeks, heard, nothing as nought}
 use denote.Struct.Steps.{spelt}
 use denote.Struct.Laws as LL
 use denote.Enum.Laws as EL
@@ -36,7 +36,8 @@ use denote.Triple.Spec.{tripleOf}
 use denote.Triple.Walked.{says, needs, Stays, stay-ref, walkOf, AllGo, goes-ref, Walks, ends-at, walked}
 use denote.Triple.Clauses.{ensured, lasts}
 use Rattle.waterfall.specs.Register.{GivenBack}
-use Rattle.waterfall.specs.Calls.{closeOf}
+use Rattle.waterfall.specs.Calls.{closeRefusal, closeOf}
+use Rattle.waterfall.specs.Reply.{Says, nothing}
 use Rattle.waterfall.specs.declared.Register.{Register}
 use Rattle.waterfall.specs.declared.Outcome.{Outcome}
 use Rattle.waterfall.proofs.Register as T
@@ -68,8 +69,8 @@ module _ {M : Type 1} (𝓤 : URA M) (H : Heap 𝓤) (A : Atoms 𝓤) (at-mem : 
   Call = tripleOf 𝓤 H A call.signature (call.spec 𝓤 H A at-mem run)
 
   -- of the call's `ensured`, the clauses alone
-  says-of : (h : Register) (r : Outcome) → ent 𝓤 (ensured 𝓤 H A call.ended (call.clauses 𝓤 H A at-mem run) tt (h, tt) tt r) (sep 𝓤 (fact 𝓤 (r ≡ closeOf h)) (fact 𝓤 (GivenBack (r .register))))
-  says-of h r = exE 𝓤 _ (λ ws. snd∗ 𝓤 (sem 𝓤 H A (lasts call.ended tt (h, tt) ws)) (sep 𝓤 (fact 𝓤 (r ≡ closeOf h)) (fact 𝓤 (GivenBack (r .register)))))
+  says-of : (h : Register) (r : Outcome) → ent 𝓤 (ensured 𝓤 H A call.ended (call.clauses 𝓤 H A at-mem run) tt (h, tt) tt r) (sep 𝓤 (fact 𝓤 (r ≡ closeOf h)) (sep 𝓤 (fact 𝓤 (GivenBack (r .register))) (fact 𝓤 (Says (r .reply) (closeRefusal h) nothing))))
+  says-of h r = exE 𝓤 _ (λ ws. snd∗ 𝓤 (sem 𝓤 H A (lasts call.ended tt (h, tt) ws)) (sep 𝓤 (fact 𝓤 (r ≡ closeOf h)) (sep 𝓤 (fact 𝓤 (GivenBack (r .register))) (fact 𝓤 (Says (r .reply) (closeRefusal h) nothing)))))
 
 module _ {M : Type 1} (𝓤 : URA M) (H : Heap 𝓤) (A : Atoms 𝓤) (W : Given 𝓤 H A) (at-mem : Memory → SProp 𝓤) (run : Routine → Fun 𝓤) (κ : Lft) (q : Share) (b o : ℕ) (γ : GName) (h : Register) where
   abbrev x : Arg
@@ -81,19 +82,19 @@ module _ {M : Type 1} (𝓤 : URA M) (H : Heap 𝓤) (A : Atoms 𝓤) (W : Given
   abbrev Post : Val → SProp 𝓤
   Post = walkOf 𝓤 H A close.ended stayed (close.clauses 𝓤 H A at-mem run) .post (((κ, tt), (q, tt), tt, x, at), tt)
 
-  exits : (r : Outcome) → r ≡ closeOf h → GivenBack (r .register) → Is R.the-row (r .reply) (reply-val r ∷ []) → ent 𝓤 (sep 𝓤 (A .obs γ (T.the-row .coded .code (r .register))) (sep 𝓤 (A .bor κ (Body (mem T.the-row) b o γ)) (A .lft κ q))) (Post (reply-val r))
-  exits r e back is =
+  exits : (r : Outcome) → r ≡ closeOf h → GivenBack (r .register) → Says (r .reply) (closeRefusal h) nothing → Is R.the-row (r .reply) (reply-val r ∷ []) → ent 𝓤 (sep 𝓤 (A .obs γ (T.the-row .coded .code (r .register))) (sep 𝓤 (A .bor κ (Body (mem T.the-row) b o γ)) (A .lft κ q))) (Post (reply-val r))
+  exits r e back said is =
       qed W (‵ (fobs γ (T.the-row .coded .code (r .register))) ∷ ‵ (fbor κ (Body (mem T.the-row) b o γ)) ∷ ‵ (flft κ q) ∷ []) ∵
       suffices ! _ (ends-at 𝓤 H A close.ended stayed (close.clauses 𝓤 H A at-mem run) W (((κ, tt), (q, tt), tt, x, at), tt) (reply-val r) (r .reply) (r .register, tt) (tt, tt)) $
-      says ! (ap (λ (p : Outcome). p .reply) e, ap (λ (p : Outcome). p .register) e, back) $ nothing ! $ move ! (3 ∷ 0 ∷ []) $ join ! $
-      frame ! $ feqI ! (List Val) (vptr b o ∷ []) (vptr b o ∷ []) refl $ fjoin3 ! $ nothing ! $ move ! (1 ∷ 0 ∷ []) $ fjoin ! $
+      says ! (ap (λ (p : Outcome). p .reply) e, ap (λ (p : Outcome). p .register) e, back, said) $ nought ! $ move ! (3 ∷ 0 ∷ []) $ join ! $
+      frame ! $ feqI ! (List Val) (vptr b o ∷ []) (vptr b o ∷ []) refl $ fjoin3 ! $ nought ! $ move ! (1 ∷ 0 ∷ []) $ fjoin ! $
       owned ! R.the-row (Is R.the-row) (EL.makes R.the-type R′.the-plain 𝓤 H A) (r .reply) _ is $ move ! (1 ∷ 0 ∷ []) $ done !
 
   abbrev to : Call 𝓤 H A at-mem run .Ghost
   to = ((tt, tt, tt, (h, tt), (vals h, tt)), tt)
 
   goes-call : GivenBack h → Is T.the-row h (vals h) → ent 𝓤 (sem 𝓤 H A ftrue) (Call 𝓤 H A at-mem run .pre to)
-  goes-call given is = qed W (‵ ftrue ∷ []) ∵ says ! given $ owned ! T.the-row (Is T.the-row) (LL.makes T.the-type T′.the-plain 𝓤 H A) h _ is $ fjoin ! $ nothing ! $ frame ! $ done !
+  goes-call given is = qed W (‵ ftrue ∷ []) ∵ says ! given $ owned ! T.the-row (Is T.the-row) (LL.makes T.the-type T′.the-plain 𝓤 H A) h _ is $ fjoin ! $ nought ! $ frame ! $ done !
 
   module _ (C : Calls 𝓤 H) (Λ : Loops 𝓤 H) (mono : FmC 𝓤 H (W .laws) C) (known : Triple 𝓤 (C #waterfall·close·close) (Call 𝓤 H A at-mem run)) where
     walk : GivenBack h → ent 𝓤 (onEntry 𝓤 H A close.signature (κ, tt) (q, tt) x at) (WpFn 𝓤 H C Λ code.function (vptr b o ∷ []) Post)
@@ -110,7 +111,7 @@ module _ {M : Type 1} (𝓤 : URA M) (H : Heap 𝓤) (A : Atoms 𝓤) (W : Given
         move ! (12 ∷ []) $ use1 W (raw (Call 𝓤 H A at-mem run .pre to)) (goes-call given is) $
         calls-at ! mono (Call 𝓤 H A at-mem run) known to (and-then ! (load ! (from ! (stop !)) (look ! 5 refl)) (no-more !)) (λ v.
         use1 W (later (some (λ (r : Outcome). (‵ ftrue ⊛ ‵ (O.the-row .own r (v ∷ []))) ⊛ raw (ensured 𝓤 H A call.ended (call.clauses 𝓤 H A at-mem run) tt (h, tt) tt r)))) (id⊢ 𝓤 _) $ await ! tt $ pick ! (λ r.
-        split ! $ move ! (1 ∷ []) $ use1 W (raw (fact 𝓤 (r ≡ closeOf h)) ⊛ raw (fact 𝓤 (GivenBack (r .register)))) (says-of 𝓤 H A at-mem run h r) $ split ! $ heard ! (r ≡ closeOf h) (λ e. heard ! (GivenBack (r .register)) (λ back. split ! $ drop ! $
+        split ! $ move ! (1 ∷ []) $ use1 W (raw (fact 𝓤 (r ≡ closeOf h)) ⊛ raw (fact 𝓤 (GivenBack (r .register))) ⊛ raw (fact 𝓤 (Says (r .reply) (closeRefusal h) nothing))) (says-of 𝓤 H A at-mem run h r) $ split ! $ heard ! (r ≡ closeOf h) (λ e. split ! $ heard ! (GivenBack (r .register)) (λ back. heard ! (Says (r .reply) (closeRefusal h) nothing) (λ said. split ! $ drop ! $
         peeks ! O.the-row (Is O.the-row) (shows 𝓤 H A O.the-row) r (v ∷ []) (λ isp.
         -- [0 what the Outcome owns; 1 the register's cell; 2 the open borrow; 3 obs; 4 auth; 5 _3; 7 room for _2; 9 _1; 11 room for _0; ..]
         land ! (from ! (stop !)) (init ! 7 refl (LL.lawful O.the-type O′.the-laws 𝓤 H A W .typed r _ isp .0)) $
@@ -121,7 +122,7 @@ module _ {M : Type 1} (𝓤 : URA M) (H : Heap 𝓤) (A : Atoms 𝓤) (W : Given
         -- [0 obs; 1 the borrow; 2 the token; 3 what the Outcome owns; 4 _3; 6 _2; 8 _1; 10 _0, each with what frees it; ..]
         returns ! (look ! 10 refl) $ forget ! 4 refl $ forget ! 6 refl $ forget ! 8 refl $ forget ! 10 refl $
         move ! (10 ∷ 11 ∷ []) $ free1 ! $ move ! (8 ∷ 9 ∷ []) $ free1 ! $ move ! (6 ∷ 7 ∷ []) $ free1 ! $ move ! (4 ∷ 5 ∷ []) $ free1 ! $ free0 ! $
-        keep ! (0 ∷ 1 ∷ 2 ∷ []) $ by ! (exits r e back (reply-is r _ isp)))))))))))))
+        keep ! (0 ∷ 1 ∷ 2 ∷ []) $ by ! (exits r e back said (reply-is r _ isp))))))))))))))
 
 module _ {M : Type 1} (𝓤 : URA M) (H : Heap 𝓤) (A : Atoms 𝓤) (W : Given 𝓤 H A) (at-mem : Memory → SProp 𝓤) (run : Routine → Fun 𝓤) where
   walks : (C : Calls 𝓤 H) (Λ : Loops 𝓤 H) → FmC 𝓤 H (W .laws) C → Triple 𝓤 (C #waterfall·close·close) (Call 𝓤 H A at-mem run) → Walks 𝓤 H A close.ended stayed (WpFn 𝓤 H C Λ code.function) (close.clauses 𝓤 H A at-mem run)

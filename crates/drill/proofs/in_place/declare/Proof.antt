@@ -42,7 +42,8 @@ use denote.Triple.Walked.{says, needs, Stays, stay-ref, stay-dropped, gave-slice
 use denote.Triple.Clauses.{Lasts, ensured, lasts}
 use denote.Exit.{yes}
 use Rattle.waterfall.specs.Register.{GivenBack}
-use Rattle.waterfall.specs.Default.{defaultOf, defaultSlip}
+use Rattle.waterfall.specs.Reply.{Says}
+use Rattle.waterfall.specs.Default.{allocationOf, defaultRefusal, defaultOf, defaultSlip}
 use Rattle.waterfall.specs.declared.Register.{Register}
 use Rattle.waterfall.specs.declared.Outcome.{Outcome}
 use Rattle.waterfall.proofs.Register as T
@@ -100,15 +101,18 @@ module _ {M : Type 1} (𝓤 : URA M) (H : Heap 𝓤) (A : Atoms 𝓤) (W : Given
   abbrev Answers : Outcome → Type 0
   Answers r = r ≡ defaultOf h n m (ranks .now) slip
 
+  abbrev Said : Outcome → Type 0
+  Said r = Says (r .reply) (defaultRefusal h n m (ranks .now) slip) (allocationOf h n m (ranks .now))
+
   abbrev Leaves : List ℕ → Type 0
   Leaves zs = zs ≡ defaultSlip h n m (ranks .now) slip
 
-  exits : (r : Outcome) (zs : List ℕ) → Answers r → Leaves zs → GivenBack (r .register) → length zs ≡ length slip → Is R.the-row (r .reply) (reply-val r ∷ [])
+  exits : (r : Outcome) (zs : List ℕ) → Answers r → Leaves zs → GivenBack (r .register) → Said r → length zs ≡ length slip → Is R.the-row (r .reply) (reply-val r ∷ [])
       → ent 𝓤 (⋆ 𝓤 H A (‵ (fobs γ (T.the-row .coded .code (r .register))) ∷ ‵ (fbor κ (Body (mem T.the-row) b o γ)) ∷ ‵ (flft κ q) ∷ toks ∷ ‵ (finally u64 γ₂ zs) ∷ [])) (Post (reply-val r))
-  exits r zs e left back l is =
+  exits r zs e left back said l is =
       qed W (‵ (fobs γ (T.the-row .coded .code (r .register))) ∷ ‵ (fbor κ (Body (mem T.the-row) b o γ)) ∷ ‵ (flft κ q) ∷ toks ∷ ‵ (finally u64 γ₂ zs) ∷ []) ∵
       suffices ! _ (ends-at 𝓤 H A declare.ended stayed (declare.clauses 𝓤 H A at-mem run) W (((κ, (κ₁, (κ₂, tt))), (q, (q₁, (q₂, tt))), tt, x, at), tt) (reply-val r) (r .reply) (r .register, (tt, (tt, (tt, (zs, tt))))) (tt, (tt, (tt, (tt, (l, tt)))))) $
-      says ! (ap (λ (p : Outcome). p .reply) e, ap (λ (p : Outcome). p .register) e, left, back) $ move ! (2 ∷ 3 ∷ []) $ join ! $ frame ! $
+      says ! (ap (λ (p : Outcome). p .reply) e, ap (λ (p : Outcome). p .register) e, left, back, said) $ move ! (2 ∷ 3 ∷ []) $ join ! $ frame ! $
       feqI ! (List Val) (vptr b o ∷ []) (vptr b o ∷ []) refl $ fjoin3 ! $ nothing ! $ move ! (2 ∷ 0 ∷ []) $ fjoin ! $ nothing ! $ fjoin ! $ nothing ! $ fjoin ! $ nothing ! $ fjoin ! $ move ! (1 ∷ 0 ∷ []) $ fjoin ! $
       owned ! R.the-row (Is R.the-row) (EL.makes R.the-type R′.the-plain 𝓤 H A) (r .reply) _ is $ move ! (1 ∷ 0 ∷ []) $ done !
 
@@ -140,8 +144,8 @@ module _ {M : Type 1} (𝓤 : URA M) (H : Heap 𝓤) (A : Atoms 𝓤) (W : Given
         calls-at ! mono (Call 𝓤 H A at-mem run) known to (and-then ! (load ! (from ! (stop !)) (look ! 9 refl)) (and-then ! (load ! (from ! (stop !)) (look ! 19 refl)) (and-then ! (load ! (from ! (stop !)) (look ! 17 refl)) (and-then ! (load ! (from ! (stop !)) (look ! 15 refl)) (and-then ! (load ! (from ! (stop !)) (look ! 5 refl)) (no-more !)))))) (λ v.
         use1 W (later (some (λ (r : Outcome). (toks ⊛ ‵ (O.the-row .own r (v ∷ []))) ⊛ raw (ensured 𝓤 H A call.ended (call.clauses 𝓤 H A at-mem run) (κ₁, (κ₂, tt)) (h, x .1) tt r)))) (id⊢ 𝓤 _) $ await ! tt $ pick ! (λ r. split ! $ move ! (1 ∷ []) $
         -- what the call ensures, at some last slip
-        use1 W (some (λ (ws : Lasts call.ended (κ₁, (κ₂, tt)) (h, x .1)). ‵ (lasts call.ended (κ₁, (κ₂, tt)) (h, x .1) ws) ⊛ raw (fact 𝓤 (Answers r)) ⊛ raw (fact 𝓤 (Leaves (ws .1 .1 .1 .1 .0))) ⊛ raw (fact 𝓤 (GivenBack (r .register))))) (id⊢ 𝓤 _) $ pick ! (λ ws.
-        split ! $ move ! (1 ∷ []) $ split ! $ heard ! (Answers r) (λ e. split ! $ heard ! (Leaves (ws .1 .1 .1 .1 .0)) (λ left. heard ! (GivenBack (r .register)) (λ back.
+        use1 W (some (λ (ws : Lasts call.ended (κ₁, (κ₂, tt)) (h, x .1)). ‵ (lasts call.ended (κ₁, (κ₂, tt)) (h, x .1) ws) ⊛ raw (fact 𝓤 (Answers r)) ⊛ raw (fact 𝓤 (Leaves (ws .1 .1 .1 .1 .0))) ⊛ raw (fact 𝓤 (GivenBack (r .register))) ⊛ raw (fact 𝓤 (Said r)))) (id⊢ 𝓤 _) $ pick ! (λ ws.
+        split ! $ move ! (1 ∷ []) $ split ! $ heard ! (Answers r) (λ e. split ! $ heard ! (Leaves (ws .1 .1 .1 .1 .0)) (λ left. split ! $ heard ! (GivenBack (r .register)) (λ back. heard ! (Said r) (λ said.
         fsplit ! $ drop ! $ fsplit ! $ drop ! $ fsplit ! $ drop ! $ fsplit ! $ drop ! $ fsplit ! $ fsplit ! $ move ! (1 ∷ []) $ feqL ! (λ l. move ! (1 ∷ []) $ drop ! $ move ! (1 ∷ []) $ split ! $ move ! (1 ∷ []) $
         peeks ! O.the-row (Is O.the-row) (shows 𝓤 H A O.the-row) r (v ∷ []) (λ isp.
         -- [0 what the Outcome owns; 1 the tokens; 2 the last slip; 3 the register's cell; 4 the open borrow; 5 obs; 6 auth; 7 _9; 9 _8; 11 _7; 13 room for _6; 15 _5; 17 _4; 19 _3; 21 _2; 23 _1; 25 room for _0; ..]
@@ -154,7 +158,7 @@ module _ {M : Type 1} (𝓤 : URA M) (H : Heap 𝓤) (A : Atoms 𝓤) (W : Given
         returns ! (look ! 24 refl) $ forget ! 6 refl $ forget ! 8 refl $ forget ! 10 refl $ forget ! 12 refl $ forget ! 14 refl $ forget ! 16 refl $ forget ! 18 refl $ forget ! 20 refl $ forget ! 22 refl $ forget ! 24 refl $
         move ! (24 ∷ 25 ∷ []) $ free1 ! $ move ! (22 ∷ 23 ∷ []) $ free1 ! $ move ! (20 ∷ 21 ∷ []) $ free1 ! $ move ! (18 ∷ 19 ∷ []) $ free1 ! $ move ! (16 ∷ 17 ∷ []) $ free1 ! $
         move ! (14 ∷ 15 ∷ []) $ free1 ! $ move ! (12 ∷ 13 ∷ []) $ free1 ! $ move ! (10 ∷ 11 ∷ []) $ free1 ! $ move ! (8 ∷ 9 ∷ []) $ free1 ! $ move ! (6 ∷ 7 ∷ []) $ free1 ! $ free0 ! $
-        keep ! (0 ∷ 1 ∷ 2 ∷ 4 ∷ 5 ∷ []) $ by ! (exits r (ws .1 .1 .1 .1 .0) e left back l (reply-is r _ isp))))))))))))))))))))))
+        keep ! (0 ∷ 1 ∷ 2 ∷ 4 ∷ 5 ∷ []) $ by ! (exits r (ws .1 .1 .1 .1 .0) e left back said l (reply-is r _ isp)))))))))))))))))))))))
 
 module _ {M : Type 1} (𝓤 : URA M) (H : Heap 𝓤) (A : Atoms 𝓤) (W : Given 𝓤 H A) (at-mem : Memory → SProp 𝓤) (run : Routine → Fun 𝓤) where
   walks : (C : Calls 𝓤 H) (Λ : Loops 𝓤 H) → FmC 𝓤 H (W .laws) C → Triple 𝓤 (C #waterfall·declaration·declare) (Call 𝓤 H A at-mem run) → Walks 𝓤 H A declare.ended stayed (WpFn 𝓤 H C Λ code.function) (declare.clauses 𝓤 H A at-mem run)

@@ -8,25 +8,14 @@ use borrow.Author.Needs.{needs}
 use lib.ListN.{length, getD, length-set}
 use Rattle.lists.specs.Limits.{memberLimit}
 use Rattle.lists.proofs.Places.{set-all}
-use Rattle.waterfall.specs.Register.{figure, GivenBack}
-use Rattle.waterfall.specs.Default.{defaultOf, defaultSlip}
-use Rattle.waterfall.specs.Declaring.{admission}
-use Rattle.waterfall.specs.declared.Outcome.{Outcome}
-use Rattle.waterfall.proofs.Answer.{answered}
-use Rattle.waterfall.proofs.Figures.{figure-at}
-use Rattle.waterfall.proofs.Given.{given-default}
-use Rattle.waterfall.proofs.Placing.{Placeable, Places, Settles, refused-early, refused-late, accepted-so, placeable, outstanding-fits, chargeable, within-left, left5-fits, roomy, placed-so, settles-so, whole-called, slip-written}
+use Rattle.figures.specs.Figures.{figure}
+use Rattle.admission.specs.Admission.{admission}
+use Rattle.waterfall.specs.Register.{GivenBack}
+use Rattle.figures.proofs.Figures.{figure-at}
+use Rattle.layers.proofs.Calls.{whole-called}
+use Rattle.waterfall.proofs.Placing.{Placeable, Places, Settles, refused-early, refused-late, accepted-so, placeable, outstanding-fits, chargeable, within-left, left5-fits, roomy, placed-so, settles-so, slip-written}
 use Rattle.waterfall.proofs.declaration.declare.Statement.{statement}
 use Rattle.waterfall.proofs.declaration.declare.Tie as tie
-
--- the answer by the definition, with the register that it gives back
-answer : {o : Outcome} {s : List ℕ} (c : tie.Start) → let a = c .args in
-    (o ≡ defaultOf (a .t1) (a .member) (a .loss) (a .ranks .now) (a .slip .now)) × (s ≡ defaultSlip (a .t1) (a .member) (a .loss) (a .ranks .now) (a .slip .now))
-    → (o ≡ defaultOf (a .t1) (a .member) (a .loss) (a .ranks .now) (a .slip .now))
-    × ((s ≡ defaultSlip (a .t1) (a .member) (a .loss) (a .ranks .now) (a .slip .now)) × GivenBack (o .register))
-answer c e =
-    let a = c .args in
-    (e .0, (e .1, answered _ (given-default (a .t1) (a .member) (a .loss) (a .ranks .now) (a .slip .now) (c .pre)) (e .0) .1))
 
 -- past 11 to 15
 module _ (c : tie.Else1) where
@@ -35,8 +24,8 @@ module _ (c : tie.Else1) where
 
   early-none : let a = begun .args in admission (a .t1 .status) (a .member) (a .loss) (a .ranks .now) (length (a .slip .now)) 0 ≡ 0
   early-none =
-      let z : c .before .refusal .result ≡ 0 = omega arith in
-      sym (c .before .refusal .ensures) ∙ z
+      let z : c .before .default-refusal .result ≡ 0 = omega arith in
+      sym (c .before .default-refusal .ensures) ∙ z
 
   can : let a = begun .args in Placeable (a .t1) (a .member) (a .loss) (a .ranks .now) × (memberLimit + memberLimit ≤ length (a .slip .now))
   can =
@@ -50,8 +39,8 @@ module _ (c : tie.Else1) where
   margin-is : let a = begun .args in figure (a .t1 .margin) (a .member) ≡ getD (a .t1 .margin) (a .member - 1) 0
   margin-is = figure-at _ _ (at .0)
 
-  own-is : let a = begun .args in figure (a .t1 .contribution) (a .member) ≡ getD (a .t1 .contribution) (a .member - 1) 0
-  own-is = figure-at _ _ (at .0)
+  contribution-is : let a = begun .args in figure (a .t1 .contribution) (a .member) ≡ getD (a .t1 .contribution) (a .member - 1) 0
+  contribution-is = figure-at _ _ (at .0)
 
 -- what comes before each layer, and before the register changes
 abbrev passed : tie.After-layer3 → tie.Else1
@@ -88,7 +77,7 @@ module _ (s : tie.After-call-others) where
       (record {
         fallen = getD (a .t1 .outstanding) (a .member - 1) 0;
         margin = l .before .before .before .layer .result .gives;
-        own = l .before .layer2 .result .gives;
+        contribution = l .before .layer2 .result .gives;
         tranche1 = l .layer3 .result .gives;
         members = f .charge-others .result .total;
         tranche2 = v .layer4 .result .gives;
@@ -104,14 +93,14 @@ module _ (s : tie.After-call-others) where
       Settles (a .t1) (a .member) (l .before .before .before .layer .result .gives) (l .before .layer2 .result .gives) (l .layer3 .result .gives) (v .layer4 .result .gives) (f .charge-others .result .charges) (s .call-others .result .calls)
   settled = settles-so _ _ _ _ (can (passed l) .0) _ _ _ _ placed
 
-refusal-requires : tie.Need-refusal-requires
-refusal-requires c κs = search needs
+default-refusal-requires : tie.Need-default-refusal-requires
+default-refusal-requires c κs = search needs
 
 returns : tie.Need-returns
 returns c =
     let b = c .before .before .before .before .before in
     let a = b .args in
-    answer b (refused-early (a .t1) (a .member) (a .loss) (a .ranks .now) (a .slip .now) _ (c .before .refusal .ensures) (c .if1 .taken))
+    refused-early (a .t1) (a .member) (a .loss) (a .ranks .now) (a .slip .now) (b .pre) _ (c .before .default-refusal .ensures) (c .if1 .taken)
 
 sub-at : tie.Need-sub-at
 sub-at c = omega (arith, at c)
@@ -182,7 +171,7 @@ returns-2 : tie.Need-returns-2
 returns-2 c =
     let x = c .before in
     let a = asked x .args in
-    answer (asked x) (refused-late (a .t1) (a .member) (a .loss) (a .ranks .now) (a .slip .now) (early-none (passed (l x))) (sym (placed x .over-is) ∙ c .if2 .taken))
+    refused-late (a .t1) (a .member) (a .loss) (a .ranks .now) (a .slip .now) (asked x .pre) (early-none (passed (l x))) (sym (placed x .over-is) ∙ c .if2 .taken)
 
 write-requires : tie.Need-write-requires
 write-requires c κs =
@@ -220,7 +209,7 @@ element-copy-out-register-2 c = omega (arith, at (passed (l (tested (c .before .
 sub-register-2 : tie.Need-sub-register-2
 sub-register-2 c =
     let x = tested (c .before .before .before .before) in
-    omega (arith, settled x .own-within, own-is (passed (l x)))
+    omega (arith, settled x .contribution-within, contribution-is (passed (l x)))
 
 element-write-register-3 : tie.Need-element-write-register-3
 element-write-register-3 c = omega (arith, at (passed (l (tested (c .before .before .before .before)))))
@@ -232,19 +221,19 @@ element-write-register-4 : tie.Need-element-write-register-4
 element-write-register-4 c = omega (arith, at (passed (l (tested (c .before .before .before .before)))))
 
 sub-register-3 : tie.Need-sub-register-3
-sub-register-3 c = omega (arith, settled (tested (c .before .before .before .before .before)) .first-within)
+sub-register-3 c = omega (arith, settled (tested (c .before .before .before .before .before)) .tranche1-within)
 
 sub-register-4 : tie.Need-sub-register-4
-sub-register-4 c = omega (arith, settled (tested (c .before .before .before .before .before .before)) .second-within)
+sub-register-4 c = omega (arith, settled (tested (c .before .before .before .before .before .before)) .tranche2-within)
 
 take-from-requires : tie.Need-take-from-requires
 take-from-requires c κs =
     let x = tested (c .before .before .before .before .before .before .before .before .before) in
     let p = settled x in
-    ((simp length-set (p .given .contribution-length), p .charges-length), rw (own-is (passed (l x))) at (p .charges-within))
+    ((simp length-set (p .given .contribution-length), p .charges-length), rw (contribution-is (passed (l x))) at (p .charges-within))
 
-add-calls-requires : tie.Need-add-calls-requires
-add-calls-requires c κs =
+add-to-requires : tie.Need-add-to-requires
+add-to-requires c κs =
     let x = tested (c .before .before .before .before .before .before .before .before .before .before .before .before .before) in
     let a = asked x .args in
     let p = settled x in (
@@ -257,8 +246,8 @@ add-calls-requires c κs =
           ),
     )
 
-add-calls-requires-2 : tie.Need-add-calls-requires-2
-add-calls-requires-2 c κs =
+add-to-requires-2 : tie.Need-add-to-requires-2
+add-to-requires-2 c κs =
     let x = tested (c .before .before .before .before .before .before .before .before .before .before .before .before .before .before .before .before .before) in
     let p = settled x in
     ((p .given .called-length, p .calls-length, whole-called _ _ _ _ _ _ (x .call-others .ensures)), p .calls-within)
@@ -273,15 +262,14 @@ returns-3 c =
     let e = passed (l x) in
     let a = asked x .args in
     let slip = slip-written (f x .charge-others .result .charges) (x .call-others .result .calls) (a .slip .now) _ _ (settled x .charges-length) (w .before .before .before .before .before .before .before .before .write .ensures) (w .before .before .write2 .ensures) in
-    answer (asked x)
-    (accepted-so (a .t1) (a .member) (a .loss) (a .ranks .now) (a .slip .now) _ _ _ _ (placed x) (early-none e) (w .before .before .before .before .before .before .before .before .before .before .before .before .if2 .left) _
-    (rw (margin-is e, own-is e, c .before .before .before .before .before .before .before .before .take-from .ensures, c .before .before .before .before .add-calls .ensures, c .add-calls2 .ensures)) _ slip)
+    accepted-so (a .t1) (a .member) (a .loss) (a .ranks .now) (a .slip .now) (asked x .pre) _ _ _ _ (placed x) (early-none e) (w .before .before .before .before .before .before .before .before .before .before .before .before .if2 .left) _
+    (rw (margin-is e, contribution-is e, c .before .before .before .before .before .before .before .before .take-from .ensures, c .before .before .before .before .add-to .ensures, c .add-to2 .ensures)) _ slip
 
 pub declare-spec : {M : Type 1} → statement M
 declare-spec =
     tie.close
     (tie.spec
-    refusal-requires
+    default-refusal-requires
     returns
     sub-at
     mul-fallen
@@ -316,7 +304,7 @@ declare-spec =
     sub-register-3
     sub-register-4
     take-from-requires
-    add-calls-requires
-    add-calls-requires-2
+    add-to-requires
+    add-to-requires-2
     same-length
     returns-3)

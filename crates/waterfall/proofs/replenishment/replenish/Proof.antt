@@ -1,15 +1,18 @@
 -- `waterfall::replenishment::replenish` meets its contract.
-use Prim.Native.Nat.{_+_, _≤_}
+use Prim.Native.Nat.{ℕ, _+_, _≤_}
+use mathlib.Core.Path.{_≡_}
 use mathlib.Core.Bool.{_||_}
 use native.Mathlib.Omega.{arith}
 use borrow.Author.Needs.{needs}
 use lib.Dec.{eqb, ltb}
 use Rattle.lists.specs.Limits.{amountLimit}
-use Rattle.waterfall.specs.Calls.{replenishedOf, replenishmentOf}
-use Rattle.waterfall.specs.Register.{figure}
-use Rattle.waterfall.proofs.Answer.{AmountCall, amount-call, fit, room-test}
-use Rattle.waterfall.proofs.Figures.{figure-le, figure-bound}
-use Rattle.waterfall.proofs.Given.{given-replenishment}
+use Rattle.waterfall.specs.Calls.{replenishedOf, replenishmentRefusal, replenishmentOf}
+use Rattle.waterfall.specs.Register.{GivenBack}
+use Rattle.waterfall.specs.declared.Register.{Register}
+use Rattle.figures.specs.Figures.{figure}
+use Rattle.waterfall.proofs.Answer.{Fit, fit, within-bound, room-test, refused, accepted, says-accepted}
+use Rattle.figures.proofs.Figures.{figure-le, figure-bound}
+use Rattle.waterfall.proofs.Given.{given-replenished}
 use Rattle.waterfall.proofs.replenishment.replenish.Statement.{statement}
 use Rattle.waterfall.proofs.replenishment.replenish.Tie as tie
 
@@ -21,19 +24,31 @@ module _ (c : tie.After-figure-of2) where
   within : let a = begun .args in figure (a .t1 .contribution) (a .member) ≤ figure (a .t1 .requirement) (a .member)
   within = figure-le _ _ (begun .pre .contribution-fits) (begun .args .member)
 
--- the call by its number, at the requirement
+-- the number that is found, at the requirement
 module _ (c : tie.After-amount-refusal) where
   abbrev read : tie.After-figure-of2
   read = c .before .before .before
 
-  call : let a = begun read .args in
-      AmountCall (a .t1) (a .member) 17 (eqb (a .amount) 0 || ltb (figure (a .t1 .requirement) (a .member)) (figure (a .t1 .contribution) (a .member) + a .amount))
-      (replenishedOf (a .t1) (a .member) (a .amount)) (c .amount-refusal .result)
-  unfolding replenishmentOf
-  call =
-      let b = begun read in
-      let tested = rw (room-test _ _ _ _ (b .args .amount) (read .figure-of2 .ensures) (read .before .before .before .figure-of .ensures) (within read)) at (c .amount-refusal .ensures) in
-      amount-call _ _ 17 _ _ _ (omega arith) (b .pre) (given-replenishment (b .args .t1) (b .args .member) (b .args .amount) (b .pre)) tested
+  found : let a = begun read .args in c .amount-refusal .result ≡ replenishmentRefusal (a .t1) (a .member) (a .amount)
+  unfolding replenishmentRefusal
+  found =
+      rw (room-test _ _ _ _ (begun read .args .amount) (read .figure-of2 .ensures) (read .before .before .before .figure-of .ensures) (within read)) at (c .amount-refusal .ensures)
+
+-- past the refusals
+fits : (r : Register) (member amount : ℕ) → GivenBack r → replenishmentRefusal r member amount ≡ 0
+    → Fit member (eqb amount 0 || ltb (figure (r .requirement) member) (figure (r .contribution) member + amount))
+unfolding replenishmentRefusal
+fits r member amount g e = fit r member 17 _ g (omega arith) e
+
+module _ (c : tie.Else1) where
+  abbrev start : tie.Start
+  start = begun (read (c .before))
+
+  none : let a = start .args in replenishmentRefusal (a .t1) (a .member) (a .amount) ≡ 0
+  none = omega (arith, found (c .before))
+
+  passed : let a = start .args in Fit (a .member) (eqb (a .amount) 0 || ltb (figure (a .t1 .requirement) (a .member)) (figure (a .t1 .contribution) (a .member) + a .amount))
+  passed = fits (start .args .t1) (start .args .member) (start .args .amount) (start .pre) none
 
 figure-of-requires : tie.Need-figure-of-requires
 figure-of-requires c κs = search needs
@@ -49,7 +64,7 @@ amount-refusal-requires c κs = search needs
 
 returns : tie.Need-returns
 unfolding replenishmentOf
-returns c = call (c .before) .refused (c .if1 .taken)
+returns c = refused _ _ _ _ _ (begun (read (c .before)) .pre) _ (found (c .before)) (c .if1 .taken)
 
 figure-of-requires-3 : tie.Need-figure-of-requires-3
 figure-of-requires-3 c κs = search needs
@@ -63,21 +78,25 @@ add-raised c =
     omega (
       arith,
       c .figure-of3 .ensures,
-      fit (b .args .amount) (figure (r .contribution) member + b .args .amount) (figure (r .requirement) member) (call (i .before) .fits (i .if1 .left)),
+      within-bound (b .args .amount) (figure (r .contribution) member + b .args .amount) (figure (r .requirement) member) (passed i .fits),
       figure-bound (r .requirement) amountLimit (b .pre .requirement-fits) member,
     )
 
 replace-requires : tie.Need-replace-requires
 replace-requires c κs =
     let i = c .before .before .before .before in
-    (begun (read (i .before)) .pre .contribution-length, call (i .before) .within (i .if1 .left))
+    (start i .pre .contribution-length, (passed i .least, passed i .most))
 
 returns-2 : tie.Need-returns-2
 unfolding replenishmentOf replenishedOf
 returns-2 c =
     let f = c .before .before in
     let i = f .before .before .before in
-    rw (c .replace .ensures, f .figure-of3 .ensures) (call (i .before) .accepted (i .if1 .left))
+    let b = start i in
+    let a = b .args in
+    rw (c .replace .ensures, f .figure-of3 .ensures)
+    (accepted _ _ _ _ _ (b .pre) _ (found (i .before)) (i .if1 .left)
+    (λ e. given-replenished (a .t1) (b .pre) (a .member) (a .amount) (within-bound (a .amount) _ _ (fits (a .t1) (a .member) (a .amount) (b .pre) e .fits))) says-accepted)
 
 pub replenish-spec : {M : Type 1} → statement M
 replenish-spec =

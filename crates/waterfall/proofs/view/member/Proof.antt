@@ -5,8 +5,8 @@ use mathlib.Core.List.{List, map}
 use native.Mathlib.Omega.{arith}
 use borrow.Author.Needs.{needs}
 use lib.ListN.{length, length-map}
-use Rattle.waterfall.specs.Register.{figure}
-use Rattle.waterfall.proofs.Figures.{figure-at, figure-past}
+use Rattle.figures.specs.Figures.{figure}
+use Rattle.figures.proofs.Figures.{figure-at, figure-past}
 use Rattle.waterfall.proofs.view.member.Statement.{statement}
 use Rattle.waterfall.proofs.view.member.Tie as tie
 

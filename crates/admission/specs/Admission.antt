@@ -1,0 +1,45 @@
+-- Document 01, "When the console says no": refusals 11 to 18, on the figures that they read.
+use Prim.Native.Nat.{ℕ, _+_}
+use mathlib.Core.Bool.{Bool, false, _||_, _&&_, not}
+use mathlib.Core.List.{List, [], _∷_}
+use lib.Dec.{eqb, ltb}
+use lib.ListN.{length}
+use Rattle.lists.specs.Checks.{check}
+use Rattle.lists.specs.Limits.{memberLimit, rankLimit, sumLimit}
+use Rattle.lists.specs.Sums.{total}
+use Rattle.figures.specs.Figures.{figure, absent, inDefault, others}
+
+-- 11. "A call's member is not in the register." 12. "A call's member is in default already." Then the rest.
+abbrev pub standing : List ℕ → ℕ → ℕ → ℕ
+standing status member rest =
+    check (eqb (figure status member) absent) 11
+    (check (eqb (figure status member) inDefault) 12
+    rest)
+
+-- 14. "Ranks are not 64 bytes, or the default slip has fewer than 128 numbers."
+abbrev pub unready : ℕ → ℕ → Bool
+unready ranks slip = not (eqb ranks memberLimit) || ltb slip (memberLimit + memberLimit)
+
+-- 15. "A rank that is read is missing or outside 1 to 64.": "Only ranks of live members other than the defaulter are read." The missing
+-- rank, 255, is outside too.
+unfoldable pub misranked : List Bool → List ℕ → Bool
+misranked [] ranks = false
+misranked (b ∷ read) [] = false
+misranked (b ∷ read) (rank ∷ ranks) = (b && (ltb rank 1 || ltb rankLimit rank)) || misranked read ranks
+
+-- a default's: 11, 12, 13. "A loss is above 25,600,000,000.", 14, 15, then the rest. `slip` is how many numbers are lent.
+abbrev pub admission : List ℕ → ℕ → ℕ → List ℕ → ℕ → ℕ → ℕ
+admission status member loss ranks slip rest =
+    standing status member
+    (check (ltb sumLimit loss) 13
+    (check (unready (length ranks) slip) 14
+    (check (misranked (others status member) ranks) 15
+    rest)))
+
+-- 16 and 17: an amount is zero or above what it may be at most
+abbrev pub unfit : ℕ → ℕ → Bool
+unfit amount most = eqb amount 0 || ltb most amount
+
+-- 18. "A close finds an outstanding call."
+abbrev pub owing : List ℕ → Bool
+owing outstanding = ltb 0 (total outstanding)

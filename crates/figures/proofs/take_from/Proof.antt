@@ -1,0 +1,83 @@
+-- `figures::take_from` meets its contract. The loop's invariant: what is changed so far, with the rest changed behind it, is the
+-- whole result.
+use Prim.Native.Nat.{_≤_, _-_}
+use mathlib.Core.Path.{_≡_}
+use native.Mathlib.Omega.{arith}
+use borrow.Author.Needs.{needs}
+use lib.ListN.{getD, drop-of-length-le}
+use Rattle.lists.specs.Limits.{memberLimit}
+use Rattle.lists.specs.Sums.{minus}
+use Rattle.lists.proofs.Fill.{InPlace, place-starts, place-next, place-turn, place-done}
+use Rattle.lists.proofs.Sums.{minus-step}
+use Rattle.figures.proofs.take_from.Statement.{statement}
+use Rattle.figures.proofs.take_from.Tie as tie
+
+abbrev Inv-loop : tie.InvT-loop
+Inv-loop figures₀ amounts i₀ figures i =
+    (i ≤ memberLimit) × InPlace minus figures₀ amounts figures i
+
+abbrev μ-loop : tie.MeasureT-loop
+μ-loop figures₀ amounts i₀ figures i = memberLimit - i
+
+-- the figure that is changed next is still the old one
+same : (c : tie.After-figures2 Inv-loop μ-loop) → let l = c .before .before .before in getD (l .loop .figures) (l .loop .i) 0 ≡ getD (l .before .args .figures .now) (l .loop .i) 0
+same c = place-next _ _ _ _ _ (c .before .before .before .loop .inv .1)
+
+loop-holds : tie.Need-loop-holds Inv-loop μ-loop
+loop-holds c = (search needs, place-starts _ _ _)
+
+mul-figures : tie.Need-mul-figures Inv-loop μ-loop
+mul-figures c = search needs
+
+element-copy-out-figures : tie.Need-element-copy-out-figures Inv-loop μ-loop
+element-copy-out-figures c = search needs
+
+mul-figures-2 : tie.Need-mul-figures-2 Inv-loop μ-loop
+mul-figures-2 c = search needs
+
+element-copy-out-figures-2 : tie.Need-element-copy-out-figures-2 Inv-loop μ-loop
+element-copy-out-figures-2 c = search needs
+
+sub-figures : tie.Need-sub-figures Inv-loop μ-loop
+sub-figures c =
+    let l = c .before .before .before in
+    omega (arith, same c, l .before .pre .1 (l .loop .i))
+
+element-write-figures : tie.Need-element-write-figures Inv-loop μ-loop
+element-write-figures c = search needs
+
+add-i : tie.Need-add-i Inv-loop μ-loop
+add-i c = search needs
+
+loop-less : tie.Need-loop-less Inv-loop μ-loop
+loop-less c = search needs
+
+loop-again : tie.Need-loop-again Inv-loop μ-loop
+loop-again c =
+    let l = c .before .before .before in
+    let a = l .before .args in
+    let step = minus-step (a .figures .now) (a .amounts .now) (l .loop .i) (omega arith) (omega arith) in
+    (omega arith, place-turn _ _ _ _ _ _ (omega arith) (rw (same c) step) (l .loop .inv .1))
+
+returns : tie.Need-returns Inv-loop μ-loop
+returns c =
+    let a = c .before .before .args in
+    place-done _ _ _ _ (c .before .loop .i) (omega arith) (rw (drop-of-length-le (a .figures .now) {i = c .before .loop .i} (omega arith))) (c .before .loop .inv .1)
+
+pub take-from-spec : {M : Type 1} → statement M
+take-from-spec =
+    tie.close
+    (tie.spec
+    Inv-loop
+    μ-loop
+    loop-holds
+    mul-figures
+    element-copy-out-figures
+    mul-figures-2
+    element-copy-out-figures-2
+    sub-figures
+    element-write-figures
+    add-i
+    loop-less
+    loop-again
+    returns)

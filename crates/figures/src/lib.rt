@@ -1,0 +1,85 @@
+// Figures by member number: read, replaced, added and taken place by place, written to a lent buffer.
+use lists::MEMBER_LIMIT;
+ghost use mathlib.Core.Path.{_≡_};
+ghost use mathlib.Core.Bool.{_||_};
+ghost use mathlib.Core.List.{_++_};
+ghost use Prim.Native.Nat.{ℕ, _+_, _≤_, _<_};
+ghost use lib.Dec.{eqb, ltb};
+ghost use lib.ListN.{length, getD, take, drop};
+ghost use Rattle.lists.specs.Limits.{memberLimit, amountLimit};
+ghost use Rattle.lists.specs.Sums.{total, plus, minus};
+ghost use Rattle.figures.specs.Figures.{figure, replace};
+
+// The status of a member: not in the register, live, in default.
+pub const ABSENT: u8 = 0;
+
+pub const LIVE: u8 = 1;
+
+pub const IN_DEFAULT: u8 = 2;
+
+// A number that is no member's: "Members are numbered 1 to 64."
+pub fn outside(member: u64) -> bool
+    ensures { λ r. ⌜ r ≡ (eqb member 0 || ltb memberLimit member) ⌝ }
+{
+    (member == 0) | ((MEMBER_LIMIT as u64) < member)
+}
+
+// The figure of a member, 0 of every other number.
+pub fn figure_of(figures: &[u64; 64], member: u64) -> u64
+    requires { ⌜ length (now figures) ≡ memberLimit ⌝ }
+    ensures { λ r. ⌜ r ≡ figure (now (figures .entry)) member ⌝ }
+{
+    if outside(member) {
+        return 0;
+    }
+    figures[(member - 1) as usize]
+}
+
+// The figures with that of a member replaced.
+pub fn replace(figures: &mut [u64; 64], member: u64, figure: u64)
+    requires { ⌜ (length (now figures) ≡ memberLimit) × ((0 < member) × (member ≤ memberLimit)) ⌝ }
+    ensures { λ _. ⌜ now (figures .exit) ≡ replace (now (figures .entry)) member figure ⌝ }
+{
+    figures[(member - 1) as usize] = figure;
+}
+
+// The figures with the amounts taken from them, place by place.
+pub fn take_from(figures: &mut [u64; 64], amounts: &[u64; 64])
+    requires { ⌜ (length (now figures) ≡ memberLimit) × (length (now amounts) ≡ memberLimit) ⌝ }
+    requires { ⌜ ((k : ℕ) → getD (now amounts) k 0 ≤ getD (now figures) k 0) ⌝ }
+    ensures { λ _. ⌜ now (figures .exit) ≡ minus (now (figures .entry)) (now (amounts .entry)) ⌝ }
+{
+    let mut i = 0;
+    while i < 64 {
+        figures[i] -= amounts[i];
+        i += 1;
+    }
+}
+
+// The figures with the amounts, `whole` together, added to them, place by place. Where there is nothing to add, nothing is done.
+pub fn add_to(figures: &mut [u64; 64], amounts: &[u64; 64], whole: u64)
+    requires { ⌜ (length (now figures) ≡ memberLimit) × (length (now amounts) ≡ memberLimit) × (whole ≡ total (now amounts)) ⌝ }
+    requires { ⌜ ((k : ℕ) → getD (now figures) k 0 + getD (now amounts) k 0 ≤ amountLimit) ⌝ }
+    ensures { λ _. ⌜ now (figures .exit) ≡ plus (now (figures .entry)) (now (amounts .entry)) ⌝ }
+{
+    if whole == 0 {
+        return;
+    }
+    let mut i = 0;
+    while i < 64 {
+        figures[i] += amounts[i];
+        i += 1;
+    }
+}
+
+// The figures put into a lent buffer from `start` on.
+pub fn write(lent: &mut [u64], start: usize, figures: &[u64; 64])
+    requires { ⌜ (length (now figures) ≡ memberLimit) × (start + memberLimit ≤ length (now lent)) ⌝ }
+    ensures { λ _. ⌜ now (lent .exit) ≡ take start (now (lent .entry)) ++ now (figures .entry) ++ drop (start + memberLimit) (now (lent .entry)) ⌝ }
+{
+    let mut i = 0;
+    while i < 64 {
+        lent[start + i] = figures[i];
+        i += 1;
+    }
+}

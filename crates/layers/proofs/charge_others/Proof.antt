@@ -1,0 +1,47 @@
+-- `layers::charge_others` meets its contract.
+use mathlib.Core.Path.{_≡_, ap, _∙_}
+use mathlib.Core.List.{map}
+use native.Mathlib.Omega.{arith}
+use borrow.Author.Needs.{needs}
+use lib.Dec.{eqb}
+use lib.ListN.{length, length-map}
+use Rattle.lists.proofs.Sums.{length-keep}
+use Rattle.ranks.specs.Ranks.{chargesOf}
+use Rattle.ranks.proofs.Laws.{charges-unread}
+use Rattle.figures.specs.Figures.{live}
+use Rattle.admission.proofs.Ranked.{ranks-fit}
+use Rattle.layers.proofs.charge_others.Statement.{statement}
+use Rattle.layers.proofs.charge_others.Tie as tie
+
+read-ranks-requires : tie.Need-read-ranks-requires
+read-ranks-requires c κs = search needs
+
+slice-aggregate-charge-by-rank : tie.Need-slice-aggregate-charge-by-rank
+slice-aggregate-charge-by-rank c = search needs
+
+charge-by-rank-requires : tie.Need-charge-by-rank-requires
+charge-by-rank-requires c κs =
+    let b = c .before .before .before in
+    let a = b .args in
+    record {
+      sum-fits = b .pre .sum-fits;
+      weights-fit = b .pre .contribution-fits;
+      long = b .pre .contribution-length;
+      as-many = omega arith;
+      ranks-fit = λ k. rw (c .before .read-ranks .ensures) (ranks-fit (map (eqb live) (a .status .now)) (a .ranks .now) (b .pre .well-ranked) k);
+    }
+
+returns : tie.Need-returns
+returns c =
+    let a = c .before .before .before .before .args in
+    let e = c .charge-by-rank .ensures in
+    let n : length (map (eqb live) (a .status .now)) ≡ length (a .contribution .now) = omega (arith, length-map (a .status .now) (eqb live)) in (
+      e .0 .0
+          ∙ ap (chargesOf (a .sum) (a .contribution .now)) (c .before .before .read-ranks .ensures)
+          ∙ charges-unread (map (eqb live) (a .status .now)) (a .contribution .now) (a .ranks .now) (length-keep (map (eqb live) (a .status .now)) (a .contribution .now) n) (a .sum),
+      e .0 .1,
+      e .1,
+    )
+
+pub charge-others-spec : {M : Type 1} → statement M
+charge-others-spec = tie.close (tie.spec read-ranks-requires slice-aggregate-charge-by-rank charge-by-rank-requires returns)

@@ -1,0 +1,151 @@
+// What a default takes, layer by layer, from lists of figures: document 01, "Declaring a default". It knows nothing of registers.
+// `status` is that of the members once the defaulter is in default, so that the live ones are the others.
+use figures::LIVE;
+use ranks::Charged;
+use ranks::charge_by_rank;
+use split::split;
+ghost use mathlib.Core.Path.{_≡_};
+ghost use mathlib.Core.Bool.{cond};
+ghost use Prim.Native.Nat.{_-_, _≤_};
+ghost use lib.Dec.{eqb};
+ghost use lib.ListN.{length};
+ghost use Rattle.lists.specs.Limits.{memberLimit, allocationLimit};
+ghost use Rattle.lists.specs.Sums.{total, keep};
+ghost use Rattle.split.specs.Split.{exceeds};
+ghost use Rattle.ranks.specs.Ranks.{chargesOf};
+ghost use Rattle.figures.specs.Figures.{live, liveIn};
+ghost use Rattle.layers.specs.Layers.{gives, rooms};
+ghost use Rattle.layers.specs.Parts.{Roomy, Chargeable, Calls};
+
+// What a layer gives, and what is left after it.
+pub struct Given {
+    pub gives: u64,
+    pub left: u64,
+}
+
+// The rests of the caps, and their total.
+struct Rooms {
+    rooms: [u64; 64],
+    total: u64,
+}
+
+// Layer 6: the calls, what is left after them, and whether one passes its room.
+pub struct Called {
+    pub calls: [u64; 64],
+    pub total: u64,
+    pub left: u64,
+    pub over: bool,
+}
+
+// "each giving all it has or all that is left to place"
+pub fn layer(left: u64, has: u64) -> Given
+    ensures { λ r. ⌜ (r .gives ≡ gives left has) × (r .left ≡ left - gives left has) ⌝ }
+{
+    if left < has {
+        return Given {
+            gives: left,
+            left: 0,
+        };
+    }
+    Given {
+        gives: has,
+        left: left - has,
+    }
+}
+
+fn live_figure(status: u8, figure: u64) -> u64
+    ensures { λ r. ⌜ r ≡ cond (eqb live status) figure 0 ⌝ }
+{
+    if status == LIVE {
+        return figure;
+    }
+    0
+}
+
+fn read_rank(status: u8, rank: u8) -> u8
+    ensures { λ r. ⌜ r ≡ cond (eqb live status) rank 0 ⌝ }
+{
+    if status == LIVE {
+        return rank;
+    }
+    0
+}
+
+// "Only ranks of live members other than the defaulter are read": the others' count as 0, which is no rank.
+fn read_ranks(status: &[u8; 64], ranks: &[u8]) -> [u8; 64]
+    requires { ⌜ (length (now status) ≡ memberLimit) × (length (now ranks) ≡ memberLimit) ⌝ }
+    ensures { λ r. ⌜ r ≡ keep (liveIn (now (status .entry))) (now (ranks .entry)) ⌝ }
+{
+    let mut read = [0u8; 64];
+    let mut i = 0;
+    while i < 64 {
+        read[i] = read_rank(status[i], ranks[i]);
+        i += 1;
+    }
+    read
+}
+
+// The rests of the caps of the live members, and 0 for the others.
+fn rooms_of<'a>(status: &'a [u8; 64], cap: &'a [u64; 64], called: &'a [u64; 64]) -> Rooms
+    requires { ⌜ Roomy (now status) (now cap) (now called) ⌝ }
+    ensures { λ r. ⌜ (r .rooms ≡ rooms (liveIn (now (status .entry))) (now (cap .entry)) (now (called .entry))) × (r .total ≡ total (r .rooms)) ⌝ }
+{
+    let mut rooms = [0u64; 64];
+    let mut whole: u64 = 0;
+    let mut i = 0;
+    while i < 64 {
+        let room = live_figure(status[i], cap[i] - called[i]);
+        rooms[i] = room;
+        whole += room;
+        i += 1;
+    }
+    Rooms {
+        rooms,
+        total: whole,
+    }
+}
+
+// Layer 4. "other live members' contributions"
+pub fn charge_others<'a>(
+    status: &'a [u8; 64],
+    contribution: &'a [u64; 64],
+    sum: u64,
+    ranks: &[u8],
+) -> Charged
+    requires { ⌜ Chargeable (now status) (now contribution) sum (now ranks) ⌝ }
+    ensures { λ r. ⌜ (r .charges ≡ chargesOf sum (keep (liveIn (now (status .entry))) (now (contribution .entry))) (now (ranks .entry)))
+        × (r .total ≡ total (r .charges)) × (r .over ≡ exceeds (r .charges) (now (contribution .entry))) ⌝ }
+{
+    let read = read_ranks(status, ranks);
+    charge_by_rank(sum, contribution, &read)
+}
+
+// Layer 6. "calls on other live members": where nothing is left, no room is looked at.
+pub fn call_others<'a>(
+    status: &'a [u8; 64],
+    cap: &'a [u64; 64],
+    called: &'a [u64; 64],
+    left: u64,
+) -> Called
+    requires { ⌜ Roomy (now status) (now cap) (now called) × (left ≤ allocationLimit) ⌝ }
+    ensures { λ r. ⌜ Calls (rooms (liveIn (now (status .entry))) (now (cap .entry)) (now (called .entry))) left (r .calls) (r .total) (r .left) (r .over) ⌝ }
+{
+    if left == 0 {
+        return Called {
+            calls: [0u64; 64],
+            total: 0,
+            left: 0,
+            over: false,
+        };
+    }
+    let found = rooms_of(status, cap, called);
+    let step = layer(left, found.total);
+    let mut calls = [0u64; 64];
+    let over = split(step.gives, found.total, &found.rooms, &mut calls);
+    Called {
+        calls,
+        total: step.gives,
+        left: step.left,
+        over,
+    }
+}

@@ -10,12 +10,12 @@ use lib.Dec.{ltb}
 use lib.ListN.{length, length-drop}
 use denote.Enum.Declared.{tagOf}
 use types.Run.{OneOf, miss}
-use Rattle.lists.specs.Checks.{check}
+use Rattle.lists.specs.Checks.{check, refuses}
 use Rattle.lists.specs.Limits.{memberLimit, amountLimit, dayLimit, scenarioLimit, weakLimit}
 use Rattle.lists.proofs.Checks.{check-past, check-lt, check-nlt, neither, either, both}
-use Rattle.sheets.specs.Bytes.{recordAt, absentAmount, nonzero}
+use Rattle.sheets.specs.Bytes.{recordAt, absentAmount}
 use Rattle.sheets.specs.Members.{memberAt, firstAt, secondAt, thirdAt, outside, missing, excessive, notRising, entryOf, numberOf}
-use Rattle.sheets.specs.Sheet.{refusal, accepted, missized, recordCount, memberRefusalFrom, memberRefusal, stressRefusalFrom, stressRefusal}
+use Rattle.sheets.specs.Sheet.{refusal, noRefusal, missized, recordCount, memberRefusalFrom, memberRefusal, stressRefusalFrom, stressRefusal}
 use Rattle.sheets.specs.Stress.{dayAt, scenarioAt, stressedAt, weakAt, lossAt, beforeAll, passed, stressOutside, stressRises, sixthWeak, stressOf, stressNumber}
 use Rattle.sheets.specs.declared.Before.{Before}
 use Rattle.sheets.specs.declared.Entry.{Entry}
@@ -250,7 +250,7 @@ module _ (floor : ℕ) (sheet : List ℕ) (count i last : ℕ) (more : i < count
   abbrev rest : Refusal
   rest = memberRefusalFrom floor (count - (i + 1)) sheet (i + 1) (memberAt (recordAt sheet i))
 
-  one : memberRefusalFrom floor (count - i) sheet i last ≡ check (nonzero (numberOf found)) (refusal (numberOf found) (i + 1)) rest
+  one : memberRefusalFrom floor (count - i) sheet i last ≡ check (refuses (numberOf found)) (refusal (numberOf found) (i + 1)) rest
   unfolding memberRefusalFrom
   one =
       let left : count - i ≡ suc (count - (i + 1)) = omega arith in
@@ -278,7 +278,7 @@ module _ (floor : ℕ) (sheet : List ℕ) (count i last : ℕ) (more : i < count
       ∙ ap (λ (n : ℕ). memberRefusalFrom floor (count - (i + 1)) sheet (i + 1) n) (sym (entry-figures _ _ _ _ _ _ _ q .member-is))
 
 -- and its end
-pub member-ends : (floor : ℕ) (sheet : List ℕ) (count i last : ℕ) → count ≤ i → memberRefusalFrom floor (count - i) sheet i last ≡ accepted
+pub member-ends : (floor : ℕ) (sheet : List ℕ) (count i last : ℕ) → count ≤ i → memberRefusalFrom floor (count - i) sheet i last ≡ noRefusal
 unfolding memberRefusalFrom
 member-ends floor sheet count i last h =
     let none : count - i ≡ 0 = omega arith in
@@ -295,7 +295,7 @@ module _ (sheet : List ℕ) (count i : ℕ) (before : Before) (more : i < count)
   stress-found = stressOf before (recordAt sheet i)
 
   stress-one : stressRefusalFrom (count - i) sheet i before
-      ≡ check (nonzero (stressNumber stress-found)) (refusal (stressNumber stress-found) (i + 1))
+      ≡ check (refuses (stressNumber stress-found)) (refusal (stressNumber stress-found) (i + 1))
       (stressRefusalFrom (count - (i + 1)) sheet (i + 1) (passed before (recordAt sheet i)))
   unfolding stressRefusalFrom
   stress-one =
@@ -322,7 +322,7 @@ module _ (sheet : List ℕ) (count i : ℕ) (before : Before) (more : i < count)
       ∙ sym (check-nlt _ _ 0 (stressNumber stress-found) (omega (arith, ap stressNumber q)) refl)
       ∙ ap (λ (b : Before). stressRefusalFrom (count - (i + 1)) sheet (i + 1) b) (sym (stress-loss _ _ _ _ _ q .next-is))
 
-pub stress-ends : (sheet : List ℕ) (count i : ℕ) (before : Before) → count ≤ i → stressRefusalFrom (count - i) sheet i before ≡ accepted
+pub stress-ends : (sheet : List ℕ) (count i : ℕ) (before : Before) → count ≤ i → stressRefusalFrom (count - i) sheet i before ≡ noRefusal
 unfolding stressRefusalFrom
 stress-ends sheet count i before h =
     let none : count - i ≡ 0 = omega arith in

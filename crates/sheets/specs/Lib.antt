@@ -3,4 +3,5 @@ pub mod Bytes
 pub mod Members
 pub mod Stress
 pub mod Sheet
+pub mod Columns
 pub mod Parts

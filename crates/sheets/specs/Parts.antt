@@ -1,12 +1,17 @@
--- What the functions that read a record promise each other. No rule of document 01 is here.
-use Prim.Native.Nat.{ℕ, _+_, _*_}
+-- What the parts of `sheets` promise each other. No rule of document 01 is here.
+use Prim.Native.Nat.{ℕ, _+_, _*_, _≤_}
+use mathlib.Core.Path.{_≡_}
 use mathlib.Core.Bool.{Bool, _||_, _&&_}
 use mathlib.Core.List.{List}
 use lib.Dec.{eqb, ltb}
+use lib.ListN.{getD}
 use Rattle.lists.specs.Limits.{memberLimit, amountLimit, dayLimit, scenarioLimit}
 use Rattle.sheets.specs.Bytes.{le32, absentAmount, beyond}
+use Rattle.sheets.specs.Columns.{columnsOf}
+use Rattle.sheets.specs.Sheet.{memberRefusal}
 use Rattle.sheets.specs.Stress.{dayAt, scenarioAt, stressedAt, weakAt, lossAt, stressOutside}
 use Rattle.sheets.specs.declared.Before.{Before}
+use Rattle.sheets.specs.declared.columns.Reading.{Reading}
 
 -- a number of eight bytes, the lowest first
 unfoldable pub le64 : List ℕ → ℕ → ℕ
@@ -25,3 +30,11 @@ stressFaulty s = stressOutside s || absentAmount (lossAt s) || ltb amountLimit (
 abbrev pub laterBlock : Before → List ℕ → Bool
 laterBlock before s =
     ltb (before .day) (dayAt s) || (eqb (dayAt s) (before .day) && ltb (before .scenario) (scenarioAt s))
+
+-- a register or a shares sheet as it is read; what was entered of it fits, whether the sheet is refused or not
+pub record MembersRead (floor : ℕ) (sheet : List ℕ) (reading : Reading) : Type 0 where
+  pub refused : reading .refusal ≡ memberRefusal floor sheet
+  pub columns-are : reading .refusal .number ≡ 0 → reading .columns ≡ columnsOf sheet
+  pub first-fits : (k : ℕ) → getD (reading .columns .first) k 0 ≤ amountLimit
+  pub second-fits : (k : ℕ) → getD (reading .columns .second) k 0 ≤ amountLimit
+  pub third-fits : (k : ℕ) → getD (reading .columns .third) k 0 ≤ amountLimit

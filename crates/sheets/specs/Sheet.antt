@@ -4,7 +4,7 @@ use mathlib.Core.Bool.{Bool, _||_}
 use mathlib.Core.List.{List}
 use lib.Dec.{eqb, ltb}
 use lib.ListN.{length}
-use Rattle.lists.specs.Checks.{check}
+use Rattle.lists.specs.Checks.{check, refuses}
 use Rattle.sheets.specs.Bytes.{recordAt, nonzero}
 use Rattle.sheets.specs.Members.{memberAt, entryOf, numberOf}
 use Rattle.sheets.specs.Stress.{beforeAll, passed, stressOf, stressNumber}
@@ -15,8 +15,12 @@ use Rattle.sheets.specs.declared.Refusal.{Refusal}
 abbrev pub refusal : ℕ → ℕ → Refusal
 refusal number position = record { number = number; position = position }
 
+abbrev pub noRefusal : Refusal
+noRefusal = refusal 0 0
+
+-- the same by the name that callers still use
 abbrev pub accepted : Refusal
-accepted = refusal 0 0
+accepted = noRefusal
 
 -- 1. "A sheet is empty, overlong or not whole records."
 unfoldable pub missized : ℕ → List ℕ → Bool
@@ -27,9 +31,9 @@ recordCount sheet = length sheet / 16
 
 -- 4 to 7, record by record: the first that is refused of the n records from record i on, `last` being the member before them
 unfoldable pub memberRefusalFrom : ℕ → ℕ → List ℕ → ℕ → ℕ → Refusal
-memberRefusalFrom floor zero sheet i last = accepted
+memberRefusalFrom floor zero sheet i last = noRefusal
 memberRefusalFrom floor (suc n) sheet i last =
-    check (nonzero (numberOf (entryOf floor last (recordAt sheet i))))
+    check (refuses (numberOf (entryOf floor last (recordAt sheet i))))
     (refusal (numberOf (entryOf floor last (recordAt sheet i))) (i + 1))
     (memberRefusalFrom floor n sheet (i + 1) (memberAt (recordAt sheet i)))
 
@@ -38,9 +42,9 @@ memberRefusal floor sheet = memberRefusalFrom floor (recordCount sheet) sheet 0 
 
 -- 4 to 8 of a stress sheet, likewise
 unfoldable pub stressRefusalFrom : ℕ → List ℕ → ℕ → Before → Refusal
-stressRefusalFrom zero sheet i before = accepted
+stressRefusalFrom zero sheet i before = noRefusal
 stressRefusalFrom (suc n) sheet i before =
-    check (nonzero (stressNumber (stressOf before (recordAt sheet i))))
+    check (refuses (stressNumber (stressOf before (recordAt sheet i))))
     (refusal (stressNumber (stressOf before (recordAt sheet i))) (i + 1))
     (stressRefusalFrom n sheet (i + 1) (passed before (recordAt sheet i)))
 

@@ -1,5 +1,6 @@
 // 16-byte records, read and refused: document 01, "The opening register", "Stress sheet and sizing", refusals 1 and 4 to 8.
 mod bytes;
+pub mod columns;
 pub mod losses;
 pub mod members;
 

@@ -53,6 +53,7 @@ module _ (r : Register) (g : GivenBack r) (call : DrillCall) (ranks slip : List 
         called = λ m. rw no (omega arith);
         stays-live = λ m s q. s;
         stays-in-default = λ m s. s;
+        in-default = λ m loss q t. absurd (false≢true (sym no ∙ t));
         ordered = λ m loss q t. absurd (false≢true (sym no ∙ t));
       }
 
@@ -83,6 +84,7 @@ module _ (r : Register) (g : GivenBack r) (call : DrillCall) (ranks slip : List 
             rw (other, same) (called m);
         stays-live = λ m s q. ap (λ (xs : List ℕ). figure xs m) (stays .0) ∙ s;
         stays-in-default = λ m s. ap (λ (xs : List ℕ). figure xs m) (stays .0) ∙ s;
+        in-default = λ m l q t. absurd (false≢true (sym other ∙ ap isDefault q));
         ordered = λ m l q t. absurd (false≢true (sym other ∙ ap isDefault q));
       }
 

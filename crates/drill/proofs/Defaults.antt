@@ -1,6 +1,6 @@
 -- The laws of a single step, for a default on a register that was given back.
 use Prim.Native.Nat.{ℕ, _+_, _<_}
-use mathlib.Core.Path.{_≡_, refl, ap, _∙_}
+use mathlib.Core.Path.{_≡_, refl, ap, sym, _∙_}
 use mathlib.Core.Bool.{Bool, true, false, cond}
 use mathlib.Core.List.{List, _++_, append-assoc}
 use native.Mathlib.Omega.{arith}
@@ -161,6 +161,7 @@ module _ (r : Register) (g : GivenBack r) (member loss : ℕ) (ranks slip : List
         called = λ m. omega (arith, call m, figure-plus (r .called) (calls r member loss ranks) m);
         stays-live = λ m s q. figure-other (r .status) member m inDefault (k .0) (eqb-false member m q) ∙ s;
         stays-in-default = λ m s. replaced (λ b old new. old ≡ inDefault → new ≡ inDefault) (r .status) member m inDefault (k .0) (omega (arith, k, g .status-length)) (λ _. refl) (λ y e. e) s;
+        in-default = λ m l q t. figure-same (r .status) member m inDefault (k .0) (omega (arith, k, g .status-length)) (sym (named q));
         ordered = λ m l q t. rw (named q) allocated-ordered;
       }
     where

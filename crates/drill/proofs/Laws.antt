@@ -47,4 +47,5 @@ pub record StepLaws (r : Register) (e : Event) : Type 0 where
   pub called : (m : ℕ) → figure (e .register .called) m ≡ cond (accepted e && isClose (e .call)) 0 (figure (r .called) m + callOn m e)
   pub stays-live : (m : ℕ) → figure (r .status) m ≡ live → (accepted e && defaults (e .call) m) ≡ false → figure (e .register .status) m ≡ live
   pub stays-in-default : (m : ℕ) → figure (r .status) m ≡ inDefault → figure (e .register .status) m ≡ inDefault
+  pub in-default : (m loss : ℕ) → e .call ≡ Default m loss → accepted e ≡ true → figure (e .register .status) m ≡ inDefault
   pub ordered : (m loss : ℕ) → e .call ≡ Default m loss → accepted e ≡ true → Ordered r e m

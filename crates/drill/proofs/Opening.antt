@@ -2,24 +2,26 @@
 use Prim.Native.Nat.{ℕ, zero, suc, _+_, _-_, _≤_, _<_}
 use mathlib.Core.Path.{_≡_, refl, ap, sym, _∙_}
 use mathlib.Core.Bool.{Bool, true, false, cond, true≢false}
-use mathlib.Core.List.{List}
+use mathlib.Core.List.{List, map}
 use native.Mathlib.Omega.{arith}
 use borrow.Author.Tests.{eqb-true, eqb-false, ltb-true, le-ltb, lt-ltb}
 use lib.Dec.{eqb, ltb}
-use lib.ListN.{length, getD, length-set}
+use lib.ListN.{length, length-set}
 use Rattle.lists.specs.Limits.{memberLimit, contributionFloor}
 use Rattle.lists.proofs.Checks.{check-true, check-false}
-use Rattle.lists.proofs.Places.{set-all}
+use Rattle.lists.proofs.Places.{map-set}
 use Rattle.sheets.specs.Bytes.{recordAt}
+use Rattle.sheets.specs.Columns.{noColumns, enteredRecord, columnsFrom, columnsOf}
 use Rattle.sheets.specs.Members.{memberAt, firstAt, secondAt, thirdAt}
-use Rattle.sheets.specs.Sheet.{accepted, recordCount, memberRefusalFrom, memberRefusal}
+use Rattle.sheets.specs.Sheet.{noRefusal, recordCount, memberRefusalFrom, memberRefusal}
+use Rattle.sheets.specs.declared.columns.Columns.{Columns}
 use Rattle.sheets.proofs.Accepted.{record-in-order, rest-accepted}
 use Rattle.figures.specs.Figures.{live, figure, replace, none}
 use Rattle.waterfall.specs.Register.{emptyRegister}
-use Rattle.waterfall.specs.Opening.{tranche1Of, tranche2Of, enteredOf, enteredFrom, unentered, openingRegister, openingRefusal, openedOf}
+use Rattle.waterfall.specs.Opening.{tranche1Of, tranche2Of, statusOf, openingRegister, openingRefusal, openedOf}
 use Rattle.waterfall.specs.declared.Register.{Register}
 use Rattle.figures.proofs.Figures.{figure-other, replaced, figure-none, figure-bound}
-use Rattle.waterfall.proofs.Entered.{accepts}
+use Rattle.waterfall.proofs.Entered.{accepts, known}
 use Rattle.drill.specs.Counting.{openingAccepted, figuresFrom, inSheet, named, openingSum, openingMargin, openingContribution, sheetCap, openingTranche1, openingTranche2}
 
 -- a list of figures with those of n records put in, from record i on
@@ -27,24 +29,18 @@ put : (List ℕ → ℕ) → ℕ → List ℕ → ℕ → List ℕ → List ℕ
 put f zero sheet i xs = xs
 put f (suc n) sheet i xs = put f n sheet (i + 1) (replace xs (memberAt (recordAt sheet i)) (f (recordAt sheet i)))
 
--- a list of the register in which each record puts its figure is such
-entered-list : (list : Register → List ℕ) (f : List ℕ → ℕ) → ((r : Register) (s : List ℕ) → list (enteredOf r s) ≡ replace (list r) (memberAt s) (f s))
-    → (n : ℕ) (sheet : List ℕ) (i : ℕ) (r : Register) → list (enteredFrom n sheet i r) ≡ put f n sheet i (list r)
-unfolding enteredFrom put
-entered-list list f h zero sheet i r = refl
-entered-list list f h (suc n) sheet i r =
+-- a list of the columns in which each record puts its figure is such
+entered-list : (list : Columns → List ℕ) (f : List ℕ → ℕ) → ((c : Columns) (s : List ℕ) → list (enteredRecord c s) ≡ replace (list c) (memberAt s) (f s))
+    → (n : ℕ) (sheet : List ℕ) (i : ℕ) (c : Columns) → list (columnsFrom n sheet i c) ≡ put f n sheet i (list c)
+unfolding columnsFrom put
+entered-list list f h zero sheet i c = refl
+entered-list list f h (suc n) sheet i c =
     let s : List ℕ = recordAt sheet i in
-    entered-list list f h n sheet (i + 1) (enteredOf r s) ∙ ap (put f n sheet (i + 1)) (h r s)
-
--- what no record names stays
-entered-rest : (n : ℕ) (sheet : List ℕ) (i : ℕ) (r : Register) → (enteredFrom n sheet i r .outstanding ≡ r .outstanding) × (enteredFrom n sheet i r .called ≡ r .called) × (enteredFrom n sheet i r .tranche1 ≡ r .tranche1) × (enteredFrom n sheet i r .tranche2 ≡ r .tranche2)
-unfolding enteredFrom enteredOf
-entered-rest zero sheet i r = (refl, refl, refl, refl)
-entered-rest (suc n) sheet i r = entered-rest n sheet (i + 1) (enteredOf r (recordAt sheet i))
+    entered-list list f h n sheet (i + 1) (enteredRecord c s) ∙ ap (put f n sheet (i + 1)) (h c s)
 
 -- each figure that is put in is that of the records that name the member: members rise, so above `last` there is none yet
 put-figure : (f : List ℕ → ℕ) (m n : ℕ) (sheet : List ℕ) (i last : ℕ) (xs : List ℕ) → length xs ≡ memberLimit
-    → ((k : ℕ) → last < k → figure xs k ≡ 0) → memberRefusalFrom contributionFloor n sheet i last ≡ accepted
+    → ((k : ℕ) → last < k → figure xs k ≡ 0) → memberRefusalFrom contributionFloor n sheet i last ≡ noRefusal
     → figure (put f n sheet i xs) m ≡ figure xs m + figuresFrom f m n sheet i
 unfolding put figuresFrom
 put-figure f m zero sheet i last xs l z q = omega arith
@@ -62,14 +58,6 @@ put-figure f m (suc n) sheet i last xs l z q =
       put-figure f m n sheet (i + 1) w (replace xs w (f s)) (length-set xs (w - 1) (f s) ∙ l) next (rest-accepted contributionFloor n sheet i last q),
     )
 
--- a mark is 0 or 1
-put-mark : (n : ℕ) (sheet : List ℕ) (i : ℕ) (xs : List ℕ) → ((k : ℕ) → getD xs k 0 ≤ live) → (k : ℕ) → getD (put (λ s. live) n sheet i xs) k 0 ≤ live
-unfolding put
-put-mark zero sheet i xs h k = h k
-put-mark (suc n) sheet i xs h k =
-    put-mark n sheet (i + 1) (replace xs (memberAt (recordAt sheet i)) live)
-    (set-all (λ j x. x ≤ live) xs (memberAt (recordAt sheet i) - 1) live h (omega arith)) k
-
 -- an opening that is accepted --------------------------------------------------------------
 
 module _ (sheet : List ℕ) (g : ℕ) (ok : openedOf sheet g .refusal .number ≡ 0) where
@@ -80,7 +68,7 @@ module _ (sheet : List ℕ) (g : ℕ) (ok : openedOf sheet g .refusal .number �
   unfolding openedOf
   is-opening = sym (check-false emptyRegister (openingRegister sheet g) (ltb 0 (openingRefusal sheet g .number)) (le-ltb 0 (openingRefusal sheet g .number) (omega (arith, ok))) refl)
 
-  all-accepted : memberRefusalFrom contributionFloor (recordCount sheet) sheet 0 0 ≡ accepted
+  all-accepted : memberRefusalFrom contributionFloor (recordCount sheet) sheet 0 0 ≡ noRefusal
   unfolding memberRefusal openedOf
   all-accepted = accepts sheet g ok .records-accepted
 
@@ -92,46 +80,51 @@ module _ (sheet : List ℕ) (g : ℕ) (ok : openedOf sheet g .refusal .number �
         put-figure f m (recordCount sheet) sheet 0 0 none refl (λ k h. figure-none k) all-accepted,
       )
 
-  list-opened : (list : Register → List ℕ) (f : List ℕ → ℕ) → ((r : Register) (s : List ℕ) → list (enteredOf r s) ≡ replace (list r) (memberAt s) (f s)) → list (unentered g) ≡ none
-      → (m : ℕ) → figure (list opened) m ≡ figure (put f (recordCount sheet) sheet 0 none) m
-  unfolding openingRegister
+  list-opened : (list : Columns → List ℕ) (f : List ℕ → ℕ) → ((c : Columns) (s : List ℕ) → list (enteredRecord c s) ≡ replace (list c) (memberAt s) (f s)) → list noColumns ≡ none
+      → (m : ℕ) → figure (list (columnsOf sheet)) m ≡ inSheet f sheet m
+  unfolding columnsOf
   list-opened list f h e m =
-      ap (λ (r : Register). figure (list r) m) is-opening
-      ∙ ap (λ (xs : List ℕ). figure xs m) (entered-list list f h (recordCount sheet) sheet 0 (unentered g) ∙ ap (put f (recordCount sheet) sheet 0) e)
+      ap (λ (xs : List ℕ). figure xs m) (entered-list list f h (recordCount sheet) sheet 0 noColumns ∙ ap (put f (recordCount sheet) sheet 0) e)
+      ∙ sheet-figure f m
+
+  -- a figure of the register that is a figure of the sheet
+  of-sheet : (list : Register → List ℕ) (m x : ℕ) → figure (list (openingRegister sheet g)) m ≡ x → figure (list opened) m ≡ x
+  of-sheet list m x q = ap (λ (r : Register). figure (list r) m) is-opening ∙ q
 
   pub margin-opened : (m : ℕ) → figure (opened .margin) m ≡ inSheet firstAt sheet m
-  unfolding enteredOf
-  margin-opened m = list-opened (λ r. r .margin) firstAt (λ r s. refl) refl m ∙ sheet-figure firstAt m
+  unfolding openingRegister
+  margin-opened m = of-sheet (λ r. r .margin) m _ (list-opened (λ c. c .first) firstAt (λ c s. refl) refl m)
 
   pub contribution-opened : (m : ℕ) → figure (opened .contribution) m ≡ inSheet secondAt sheet m
-  unfolding enteredOf
-  contribution-opened m = list-opened (λ r. r .contribution) secondAt (λ r s. refl) refl m ∙ sheet-figure secondAt m
+  unfolding openingRegister
+  contribution-opened m = of-sheet (λ r. r .contribution) m _ (list-opened (λ c. c .second) secondAt (λ c s. refl) refl m)
 
   pub cap-opened : (m : ℕ) → figure (opened .cap) m ≡ inSheet thirdAt sheet m
-  unfolding enteredOf
-  cap-opened m = list-opened (λ r. r .cap) thirdAt (λ r s. refl) refl m ∙ sheet-figure thirdAt m
+  unfolding openingRegister
+  cap-opened m = of-sheet (λ r. r .cap) m _ (list-opened (λ c. c .third) thirdAt (λ c s. refl) refl m)
 
   -- who is named is live
   pub live-opened : (m : ℕ) → named sheet m ≡ true → figure (opened .status) m ≡ live
-  unfolding enteredOf
+  unfolding openingRegister
   live-opened m n =
-      omega (
+      let stands : figure (map statusOf (columnsOf sheet .present)) m ≡ inSheet (λ s. live) sheet m =
+      list-opened (λ c. map statusOf (c .present)) (λ s. live) (λ c s. map-set statusOf (c .present) (memberAt s - 1) true) refl m in
+      of-sheet (λ r. r .status) m live
+      (omega (
         arith,
-        list-opened (λ r. r .status) (λ s. live) (λ r s. refl) refl m,
-        sheet-figure (λ s. live) m,
+        stands,
         ltb-true 0 (inSheet (λ s. 1) sheet m) n,
-        figure-bound (put (λ s. live) (recordCount sheet) sheet 0 none) live (put-mark (recordCount sheet) sheet 0 none (λ k. omega (arith, figure-none (suc k)))) m,
-      )
+        figure-bound (map statusOf (columnsOf sheet .present)) live (known (columnsOf sheet .present)) m,
+      ))
 
   pub rest-opened : (opened .outstanding ≡ none) × (opened .called ≡ none) × (opened .tranche1 ≡ tranche1Of g) × (opened .tranche2 ≡ tranche2Of g)
   unfolding openingRegister
-  rest-opened =
-      let e = entered-rest (recordCount sheet) sheet 0 (unentered g) in (
-        ap (λ (r : Register). r .outstanding) is-opening ∙ e .0,
-        ap (λ (r : Register). r .called) is-opening ∙ e .1,
-        ap (λ (r : Register). r .tranche1) is-opening ∙ e .2,
-        ap (λ (r : Register). r .tranche2) is-opening ∙ e .3,
-      )
+  rest-opened = (
+    ap (λ (r : Register). r .outstanding) is-opening,
+    ap (λ (r : Register). r .called) is-opening,
+    ap (λ (r : Register). r .tranche1) is-opening,
+    ap (λ (r : Register). r .tranche2) is-opening,
+  )
 
 -- any opening ------------------------------------------------------------------------------
 

@@ -5,7 +5,7 @@ use mathlib.Core.Bool.{false, cond, _&&_}
 use mathlib.Core.List.{List, [], _∷_, _++_}
 use native.Mathlib.Omega.{arith}
 use Rattle.lists.proofs.Checks.{neither}
-use Rattle.figures.specs.Figures.{live, figure}
+use Rattle.figures.specs.Figures.{live, inDefault, figure}
 use Rattle.waterfall.specs.Register.{GivenBack}
 use Rattle.waterfall.specs.Reply.{layer1, layer2, layer3, layer4, layer5, layer6}
 use Rattle.waterfall.specs.declared.Register.{Register}
@@ -111,6 +111,18 @@ module _ (after : List Event) where
   last-live m (b ∷ before) r s d run =
       let n = neither (accepted b && defaults (b .call) m) (defaulted m before) d in
       last-live m before (b .register) (run .0 .stays-live m s (n .0)) (n .1) (run .1)
+
+-- who is in default stays so
+last-in-default : (m : ℕ) (events : List Event) (r : Register) → figure (r .status) m ≡ inDefault → Run r events → figure (lastRegister r events .status) m ≡ inDefault
+unfolding lastRegister
+last-in-default m [] r s run = s
+last-in-default m (e ∷ events) r s run = last-in-default m events (e .register) (run .0 .stays-in-default m s) (run .1)
+
+pub ever-after : (m : ℕ) (before : List Event) (r : Register) (e : Event) (after : List Event) → Run r (before ++ e ∷ after) → figure (e .register .status) m ≡ inDefault
+    → figure (lastRegister r (before ++ e ∷ after) .status) m ≡ inDefault
+unfolding lastRegister
+ever-after m [] r e after run s = last-in-default m after (e .register) s (run .1)
+ever-after m (b ∷ before) r e after run s = ever-after m before (b .register) e after (run .1) s
 
 -- the register after one more event
 pub last-of : (before : List Event) (r : Register) (e : Event) → lastRegister r (before ++ e ∷ []) ≡ e .register

@@ -1,4 +1,4 @@
--- Statement 3, proved: for any register sheet, any G and any list of drill calls.
+-- Statement 3, proved: for any register sheet, any G and any list of drill calls. Last, that a defaulter is so for good.
 use Prim.Native.Nat.{ℕ, _≤_}
 use mathlib.Core.Path.{_≡_, ap, sym, subst, _∙_}
 use mathlib.Core.Bool.{true, not, _&&_}
@@ -7,7 +7,7 @@ use native.Mathlib.Omega.{arith}
 use borrow.Author.Tests.{not-true}
 use Rattle.lists.proofs.Checks.{both}
 use Rattle.waterfall.specs.Opening.{openedOf}
-use Rattle.figures.specs.Figures.{live, figure}
+use Rattle.figures.specs.Figures.{live, inDefault, figure}
 use Rattle.waterfall.specs.declared.Register.{Register}
 use Rattle.figures.proofs.Figures.{figure-le}
 use Rattle.waterfall.proofs.Entered.{given-opened}
@@ -16,7 +16,7 @@ use Rattle.drill.specs.Counting.{openingAccepted, named, defaulted, shee
 use Rattle.drill.specs.Statement.{OtherLive, CalledToCap, InOrder, Statement3}
 use Rattle.drill.specs.declared.DrillCall.the-variants.{Default}
 use Rattle.drill.proofs.Laws.{in-order}
-use Rattle.drill.proofs.Runs.{Run, trace-runs, totals, next-laws, last-given, last-cap, last-called, last-live, last-of}
+use Rattle.drill.proofs.Runs.{Run, trace-runs, totals, next-laws, last-given, last-cap, last-called, last-live, last-of, ever-after}
 use Rattle.drill.proofs.Opening.{opens}
 
 module _ (sheet : List ℕ) (g : ℕ) (steps : List Step) where
@@ -85,3 +85,11 @@ module _ (sheet : List ℕ) (g : ℕ) (steps : List Step) where
         order = ordered;
         caps = within-caps;
       }
+
+  -- "The defaulter is then in default for good.": whom an accepted default names is in default in the register last given back
+  pub in-default-for-good : (before : List Event) (e : Event) (after : List Event) → events ≡ before ++ e ∷ after
+      → (m loss : ℕ) → e .call ≡ Default m loss → accepted e ≡ true → figure (lastRegister opened events .status) m ≡ inDefault
+  in-default-for-good before e after q m loss c t =
+      let r : Run opened (before ++ e ∷ after) = run-of _ q in
+      ap (λ (es : List Event). figure (lastRegister opened es .status) m) q
+      ∙ ever-after m before opened e after r (next-laws before opened e after r .in-default m loss c t)

@@ -1,6 +1,6 @@
 -- What holds at every place of a list, after a place is replaced.
 use Prim.Native.Nat.{ℕ, zero, suc, _<_}
-use mathlib.Core.Path.{_≡_, refl, sym}
+use mathlib.Core.Path.{_≡_, refl, ap, sym}
 use mathlib.Core.Bool.{Bool, false}
 use mathlib.Core.List.{List, [], _∷_, map}
 use native.Mathlib.Omega.{arith}
@@ -37,3 +37,9 @@ pub getD-map-any : (f : ℕ → Bool) (xs : List ℕ) (k : ℕ) → f 0 ≡ fals
 getD-map-any f [] k e = sym e
 getD-map-any f (x ∷ xs) zero e = refl
 getD-map-any f (x ∷ xs) (suc k) e = getD-map-any f xs k e
+
+-- a place of a list replaced, and what a function makes of it
+pub map-set : {A B : Type 0} (f : A → B) (xs : List A) (i : ℕ) (x : A) → map f (set xs i x) ≡ set (map f xs) i (f x)
+map-set f [] i x = refl
+map-set f (y ∷ ys) zero x = refl
+map-set f (y ∷ ys) (suc i) x = ap (λ zs. f y ∷ zs) (map-set f ys i x)

@@ -4,5 +4,4 @@ pub mod Default
 pub mod Order
 pub mod Given
 pub mod Entered
-pub mod Reading
 pub mod Placing

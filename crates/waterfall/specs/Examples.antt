@@ -7,9 +7,10 @@ use Rattle.lists.specs.Checks.{check}
 use Rattle.split.specs.Split.{shareOf, splitOf, exceeds}
 use Rattle.ranks.specs.Ranks.{chargesFrom, chargesOf}
 use Rattle.sheets.specs.Bytes.{le32}
+use Rattle.sheets.specs.Columns.{columnsFrom, columnsOf}
 use Rattle.sheets.specs.Members.{outside, missing, excessive, entryOf}
 use Rattle.sheets.specs.Sheet.{missized, memberRefusalFrom, memberRefusal}
-use Rattle.waterfall.specs.Opening.{tranche1Of, tranche2Of, enteredOf, enteredFrom, openingRegister, openingRefusal, openedOf}
+use Rattle.waterfall.specs.Opening.{tranche1Of, tranche2Of, openingRegister, openingRefusal, openedOf}
 use Rattle.figures.specs.Figures.{others}
 use Rattle.admission.specs.Admission.{misranked}
 use Rattle.waterfall.specs.Default.{roomsOf, fallenCall, toPlace, onMargin, after1, onContribution, after2, onTranche1, after3, charges, after4, onTranche2, after5, onCalls, calls, shortfall, allocationOf, settledOf, defaultRefusal, defaultOf, defaultSlip}
@@ -73,5 +74,5 @@ pub three-defaults : (default1 .reply ≡ answers 0 50_000 20_000 13_200 16_800 
     × (default2 .reply ≡ answers 0 0 4_400 0 38_800 8_800 8_000 0)
     × (take 4 (drop 64 (defaultSlip (default1 .register) 3 60_000 (ranked 255 1 255 1) slip)) ≡ 0 ∷ 8_000 ∷ 0 ∷ 0 ∷ [])
     × (default3 .reply ≡ answers 8_000 0 0 0 0 0 0 8_000)
-unfolding sheet row amount register slip ranked default1 default2 default3 answers openedOf openingRefusal memberRefusal memberRefusalFrom entryOf outside missing excessive missized le32 check openingRegister enteredFrom enteredOf judged defaultOf defaultSlip defaultRefusal misranked exceeds roomsOf fallenCall toPlace onMargin after1 onContribution after2 onTranche1 after3 charges after4 onTranche2 after5 onCalls calls shortfall allocationOf settledOf chargesOf chargesFrom splitOf shareOf
+unfolding sheet row amount register slip ranked default1 default2 default3 answers openedOf openingRefusal memberRefusal memberRefusalFrom entryOf outside missing excessive missized le32 check openingRegister columnsOf columnsFrom judged defaultOf defaultSlip defaultRefusal misranked exceeds roomsOf fallenCall toPlace onMargin after1 onContribution after2 onTranche1 after3 charges after4 onTranche2 after5 onCalls calls shortfall allocationOf settledOf chargesOf chargesFrom splitOf shareOf
 three-defaults = (refl, refl, refl, refl, refl)

@@ -1,29 +1,31 @@
 // Document 01, "The opening register": a register opened from its sheet and our own contribution G.
 use crate::Opened;
 use crate::Register;
+use figures::ABSENT;
+use figures::LIVE;
 use lists::CONTRIBUTION_FLOOR;
 use lists::MEMBER_LIMIT;
 use lists::SUM_LIMIT;
-use sheets::Entry;
 use sheets::Refusal;
-use sheets::members::entry;
-use sheets::members::number_of;
+use sheets::columns::Columns;
+use sheets::columns::read;
 use sheets::missized;
 ghost use mathlib.Core.Path.{_≡_};
-ghost use mathlib.Core.Bool.{false};
+ghost use mathlib.Core.List.{map};
 ghost use Prim.Native.Nat.{_≤_};
-ghost use Rattle.lists.specs.Limits.{memberLimit, sumLimit};
-ghost use Rattle.sheets.specs.Sheet.{missized};
-ghost use Rattle.waterfall.specs.Register.{GivenBack};
-ghost use Rattle.waterfall.specs.Opening.{unentered, refusedOpening, openedOf};
+ghost use Rattle.lists.specs.Limits.{sumLimit};
+ghost use Rattle.sheets.specs.Sheet.{refusal};
+ghost use Rattle.waterfall.specs.Register.{GivenBack, emptyRegister};
+ghost use Rattle.waterfall.specs.Opening.{statusOf, enteredOf, openedOf};
 
+// A refused opening: nobody is in the register.
 fn refused(number: u8, position: usize) -> Opened
-    ensures { λ r. ⌜ r ≡ refusedOpening number position ⌝ }
+    ensures { λ r. ⌜ (r .refusal ≡ refusal number position) × (r .register ≡ emptyRegister) ⌝ }
 {
     Opened {
         refusal: Refusal { number, position },
         register: Register {
-            status: [0u8; 64],
+            status: [ABSENT; 64],
             margin: [0u64; 64],
             contribution: [0u64; 64],
             requirement: [0u64; 64],
@@ -36,61 +38,46 @@ fn refused(number: u8, position: usize) -> Opened
     }
 }
 
-// Before the first record.
-fn unentered(own: u64) -> Register
-    requires { ⌜ own ≤ sumLimit ⌝ }
-    ensures { λ r. ⌜ r ≡ unentered own ⌝ }
+fn status_of(present: bool) -> u8
+    ensures { λ r. ⌜ r ≡ statusOf present ⌝ }
 {
+    if present {
+        return LIVE;
+    }
+    ABSENT
+}
+
+// "Everyone is live"
+fn statuses(present: [bool; 64]) -> [u8; 64]
+    ensures { λ r. ⌜ r ≡ map statusOf present ⌝ }
+{
+    let mut status = [ABSENT; 64];
+    for i in 0..64 {
+        status[i] = status_of(present[i]);
+    }
+    status
+}
+
+// The register with the members of the sheet.
+fn entered(columns: Columns, own: u64) -> Register
+    requires { ⌜ own ≤ sumLimit ⌝ }
+    ensures { λ r. ⌜ r ≡ enteredOf columns own ⌝ }
+{
+    let present = columns.present;
+    let margin = columns.first;
+    let contribution = columns.second;
+    let cap = columns.third;
     let tranche1 = 60 * own / 100;
     Register {
-        status: [0u8; 64],
-        margin: [0u64; 64],
-        contribution: [0u64; 64],
-        requirement: [0u64; 64],
-        cap: [0u64; 64],
+        status: statuses(present),
+        margin,
+        contribution,
+        requirement: contribution,
+        cap,
         outstanding: [0u64; 64],
         called: [0u64; 64],
         tranche1,
         tranche2: own - tranche1,
-    }
-}
-
-// Record by record, of a sheet of the right size.
-fn read(sheet: &[u8], own: u64) -> Opened
-    requires { ⌜ (missized memberLimit (now sheet) ≡ false) × (own ≤ sumLimit) ⌝ }
-    ensures { λ r. ⌜ r ≡ openedOf (now (sheet .entry)) own ⌝ }
-{
-    let count = sheet.len() / 16;
-    let mut register = unentered(own);
-    let mut last: u8 = 0;
-    let mut i: usize = 0;
-    while i < count {
-        let start = i * 16;
-        let found = entry(CONTRIBUTION_FLOOR, last, &sheet[start..]);
-        let Entry::Figures {
-            member,
-            first,
-            second,
-            third,
-        } = found
-        else {
-            return refused(number_of(found), i + 1);
-        };
-        let at = (member - 1) as usize;
-        register.status[at] = 1;
-        register.margin[at] = first;
-        register.contribution[at] = second;
-        register.requirement[at] = second;
-        register.cap[at] = third;
-        last = member;
-        i += 1;
-    }
-    Opened {
-        refusal: Refusal {
-            number: 0,
-            position: 0,
-        },
-        register,
     }
 }
 
@@ -104,5 +91,14 @@ pub fn open(sheet: &[u8], own: u64) -> Opened
     if SUM_LIMIT < own {
         return refused(2, 0);
     }
-    read(sheet, own)
+    let reading = read(CONTRIBUTION_FLOOR, sheet);
+    let found = reading.refusal;
+    if 0 < found.number {
+        return refused(found.number, found.position);
+    }
+    let columns = reading.columns;
+    Opened {
+        refusal: found,
+        register: entered(columns, own),
+    }
 }

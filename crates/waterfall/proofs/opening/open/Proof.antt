@@ -1,12 +1,26 @@
 -- `waterfall::opening::open` meets its contract.
-use mathlib.Core.Path.{refl, sym, _∙_}
+use Prim.Native.Nat.{_≤_}
+use mathlib.Core.Path.{_≡_, refl, ap, sym, _∙_}
 use native.Mathlib.Omega.{arith}
 use borrow.Author.Needs.{needs}
+use Rattle.lists.specs.Limits.{contributionFloor}
 use Rattle.lists.proofs.Checks.{check-yes, check-no, check-lt}
-use Rattle.waterfall.specs.Opening.{openingRefusal}
-use Rattle.waterfall.proofs.Reading.{refused-as, opens}
+use Rattle.sheets.specs.Sheet.{memberRefusal}
+use Rattle.sheets.specs.declared.columns.Columns.{Columns}
+use Rattle.waterfall.specs.Opening.{enteredOf, openingRegister, openingRefusal}
+use Rattle.waterfall.proofs.Entered.{opened-refused, opened-accepted, by-records}
 use Rattle.waterfall.proofs.opening.open.Statement.{statement}
 use Rattle.waterfall.proofs.opening.open.Tie as tie
+
+-- past 1 and 2 the records decide
+module _ (c : tie.After-read) where
+  abbrev begun : tie.Start
+  begun = c .before .before .before .before .before
+
+  found : c .read .result .refusal ≡ openingRefusal (begun .args .sheet .now) (begun .args .own)
+  found =
+      c .read .ensures .refused
+      ∙ by-records _ _ (sym (c .before .before .before .missized .ensures) ∙ c .before .before .if1 .left) (c .before .if2 .left)
 
 missized-requires : tie.Need-missized-requires
 missized-requires c κs = search needs
@@ -18,8 +32,7 @@ returns : tie.Need-returns
 unfolding openingRefusal
 returns c =
     let m = c .before .before in
-    opens _ _
-    (c .refused .ensures ∙ refused-as _ _ 1 0 (check-yes _ _ _ _ (m .missized .ensures) (c .before .if1 .taken) refl) (omega arith))
+    opened-refused _ _ 1 0 (c .refused .ensures) (check-yes _ _ _ _ (m .missized .ensures) (c .before .if1 .taken) refl) (omega arith)
 
 refused-requires-2 : tie.Need-refused-requires-2
 refused-requires-2 c κs = search needs
@@ -29,20 +42,31 @@ unfolding openingRefusal
 returns-2 c =
     let i = c .before in
     let m = i .before .before in
-    opens _ _
-    (c .refused2 .ensures
-    ∙ refused-as _ _ 2 0
+    opened-refused _ _ 2 0 (c .refused2 .ensures)
     (check-no _ _ _ _ (m .missized .ensures) (i .before .if1 .left)
     (check-lt _ _ _ _ (i .if2 .taken)
     refl))
-    (omega arith))
+    (omega arith)
 
 read-requires : tie.Need-read-requires
-read-requires c κs =
-    (sym (c .before .before .missized .ensures) ∙ c .before .if1 .left, c .if2 .left)
+read-requires c κs = search needs
+
+refused-requires-3 : tie.Need-refused-requires-3
+refused-requires-3 c κs = search needs
 
 returns-3 : tie.Need-returns-3
-returns-3 c = opens _ _ (c .read .ensures)
+returns-3 c = opened-refused _ _ _ _ (c .refused3 .ensures) (found (c .before .before .before .before)) (c .before .if3 .taken)
+
+entered-requires : tie.Need-entered-requires
+entered-requires c κs = search needs
+
+returns-4 : tie.Need-returns-4
+unfolding openingRegister
+returns-4 c =
+    let r = c .before .before .before .before .before in
+    let z : r .read .result .refusal .number ≡ 0 = omega arith in
+    opened-accepted _ _ (found r) (omega arith)
+    (c .entered .ensures ∙ ap (λ (columns : Columns). enteredOf columns (begun r .args .own)) (r .read .ensures .columns-are z))
 
 pub open-spec : {M : Type 1} → statement M
 open-spec =
@@ -54,4 +78,7 @@ open-spec =
     refused-requires-2
     returns-2
     read-requires
-    returns-3)
+    refused-requires-3
+    returns-3
+    entered-requires
+    returns-4)

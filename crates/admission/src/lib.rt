@@ -73,13 +73,15 @@ pub fn default_refusal(status: [u8; 64], member: u64, loss: u64, ranks: &[u8], s
     ensures { λ r. ⌜ r ≡ admission status member loss (now (ranks .entry)) slip 0 ⌝ }
 {
     let found = standing(&status, member);
+    let above = excessive(loss);
+    let short = unready(ranks.len(), slip);
     if 0 < found {
         return found;
     }
-    if excessive(loss) {
+    if above {
         return 13;
     }
-    if unready(ranks.len(), slip) {
+    if short {
         return 14;
     }
     let at = (member - 1) as usize;

@@ -12,27 +12,27 @@ use Rattle.drill.specs.declared.DrillCall.{DrillCall}
 use Rattle.drill.specs.declared.DrillCall.the-variants.{Default, Payment, Replenishment, Close}
 
 -- a call on a register, with ranks and a slip beside it
-unfoldable pub appliedOf : Register → DrillCall → List ℕ → List ℕ → Outcome
+abbrev pub appliedOf : Register → DrillCall → List ℕ → List ℕ → Outcome
 appliedOf r (Default member loss) ranks slip = defaultOf r member loss ranks slip
 appliedOf r (Payment member amount) ranks slip = paymentOf r member amount
 appliedOf r (Replenishment member amount) ranks slip = replenishmentOf r member amount
 appliedOf r Close ranks slip = closeOf r
 
 -- the slip as the call leaves it: only a default writes one
-unfoldable pub slipLeft : Register → DrillCall → List ℕ → List ℕ → List ℕ
+abbrev pub slipLeft : Register → DrillCall → List ℕ → List ℕ → List ℕ
 slipLeft r (Default member loss) ranks slip = defaultSlip r member loss ranks slip
 slipLeft r (Payment member amount) ranks slip = slip
 slipLeft r (Replenishment member amount) ranks slip = slip
 slipLeft r Close ranks slip = slip
 
 -- the number of its refusal, 0 where it is accepted, and what it allocates: only a default does
-unfoldable pub refusalOf : Register → DrillCall → List ℕ → List ℕ → ℕ
+abbrev pub refusalOf : Register → DrillCall → List ℕ → List ℕ → ℕ
 refusalOf r (Default member loss) ranks slip = defaultRefusal r member loss ranks slip
 refusalOf r (Payment member amount) ranks slip = paymentRefusal r member amount
 refusalOf r (Replenishment member amount) ranks slip = replenishmentRefusal r member amount
 refusalOf r Close ranks slip = closeRefusal r
 
-unfoldable pub allocatedBy : Register → DrillCall → List ℕ → Allocation
+abbrev pub allocatedBy : Register → DrillCall → List ℕ → Allocation
 allocatedBy r (Default member loss) ranks = allocationOf r member loss ranks
 allocatedBy r (Payment member amount) ranks = nothing
 allocatedBy r (Replenishment member amount) ranks = nothing

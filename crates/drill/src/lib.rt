@@ -3,6 +3,10 @@ pub mod in_place;
 
 use waterfall::Outcome;
 use waterfall::Register;
+use waterfall::close::close;
+use waterfall::declaration::declare;
+use waterfall::payment::pay;
+use waterfall::replenishment::replenish;
 ghost use mathlib.Core.Path.{_≡_};
 ghost use Rattle.waterfall.specs.Register.{GivenBack};
 ghost use Rattle.waterfall.specs.Reply.{Says};
@@ -25,19 +29,9 @@ pub fn apply(register: Register, call: DrillCall, ranks: &[u8], slip: &mut [u64]
     ensures { λ r. ⌜ Says (r .reply) (refusalOf register call (now (ranks .entry)) (now (slip .entry))) (allocatedBy register call (now (ranks .entry))) ⌝ }
 {
     match call {
-        DrillCall::Default { member, loss } => waterfall::declaration::declare(
-            register,
-            member,
-            loss,
-            ranks,
-            slip,
-        ),
-        DrillCall::Payment { member, amount } => waterfall::payment::pay(register, member, amount),
-        DrillCall::Replenishment { member, amount } => waterfall::replenishment::replenish(
-            register,
-            member,
-            amount,
-        ),
-        DrillCall::Close => waterfall::close::close(register),
+        DrillCall::Default { member, loss } => declare(register, member, loss, ranks, slip),
+        DrillCall::Payment { member, amount } => pay(register, member, amount),
+        DrillCall::Replenishment { member, amount } => replenish(register, member, amount),
+        DrillCall::Close => close(register),
     }
 }

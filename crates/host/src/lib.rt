@@ -16,6 +16,6 @@ pub extern "C" fn review_due(cover: u64, target: u64) -> bool
 pub extern "C" fn register_refusal(sheet: &[u8], own: u64) -> u8
     ensures { λ r. ⌜ r ≡ openedOf (now (sheet .entry)) own .refusal .number ⌝ }
 {
-    let opened = waterfall::sheet::open(sheet, own);
+    let opened = waterfall::opening::open(sheet, own);
     opened.refusal.number
 }

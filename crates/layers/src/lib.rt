@@ -65,10 +65,10 @@ fn live_figure(status: u8, figure: u64) -> u64
 fn read_rank(status: u8, rank: u8) -> u8
     ensures { λ r. ⌜ r ≡ cond (eqb live status) rank 0 ⌝ }
 {
-    if status == LIVE {
-        return rank;
+    if status != LIVE {
+        return 0;
     }
-    0
+    rank
 }
 
 // "Only ranks of live members other than the defaulter are read": the others' count as 0, which is no rank.

@@ -2,10 +2,13 @@
 -- come behind it, is the whole result. A function that goes by cons on the lists it reads is proved with these laws.
 use Prim.Native.Nat.{ℕ, suc, _+_, _-_, _≤_, _<_}
 use mathlib.Core.Path.{_≡_, refl, ap, sym, _∙_}
-use mathlib.Core.List.{List, [], _∷_, _++_, append-assoc, append-nil}
+use mathlib.Core.Bool.{Bool, cond}
+use mathlib.Core.List.{List, [], _∷_, _++_, append-assoc, append-nil, map}
 use native.Mathlib.Numerals.{add-one}
 use native.Mathlib.Omega.{arith}
-use lib.ListN.{length, getD, take, drop, set, length-set, length-drop}
+use lib.ListN.{length, getD, take, drop, set, length-set, length-drop, drop-of-length-le}
+use Rattle.lists.specs.Sums.{plus, keep}
+use Rattle.lists.proofs.Sums.{keep-map-step}
 use lib.Seq.{take-suc, take-suc-set, take-all, drop-cons, drop-set-lt, drop-drop, getD-drop, set-at, length-take-le}
 
 -- one more turn
@@ -65,3 +68,18 @@ module _ (f : List ℕ → List ℕ → List ℕ) (old by : List ℕ) where
 
   pub place-done : (out : List ℕ) (k : ℕ) → length old ≤ k → f (drop k old) (drop k by) ≡ [] → InPlace f old by out k → out ≡ f old by
   place-done out k h e i = fill-done out _ _ k (omega (arith, i .as-long)) e (i .filled)
+
+-- the marked numbers added to a list in place ----------------------------------------
+
+-- numbers added to a list in place, one a turn
+pub add-turn : (f : ℕ → Bool) (rs ws out r : List ℕ) (i x s : ℕ) → i < length rs → i < length ws → i < length out → x ≡ cond (f (getD rs i 0)) (getD ws i 0) 0
+    → s ≡ getD out i 0 + x → take i out ++ plus (keep (map f (drop i rs)) (drop i ws)) (drop i out) ≡ r
+    → take (i + 1) (set out i s) ++ plus (keep (map f (drop (i + 1) rs)) (drop (i + 1) ws)) (drop (i + 1) (set out i s)) ≡ r
+add-turn f rs ws out r i x s hr hw ho e v h =
+    let n : s ≡ x + getD out i 0 = omega arith in
+    rw (drop-set-lt (i + 1) out i s (omega arith))
+    (fill-turn out r _ _ i s ho (rw (keep-map-step f rs ws i x hr hw e, n, add-one, drop-cons out i 0)) h)
+
+pub add-done : (f : ℕ → Bool) (rs ws out r : List ℕ) (i : ℕ) → length rs ≤ i → length out ≤ i
+    → take i out ++ plus (keep (map f (drop i rs)) (drop i ws)) (drop i out) ≡ r → out ≡ r
+add-done f rs ws out r i hr ho h = fill-done out r _ i ho (rw (drop-of-length-le rs hr, drop-of-length-le out ho)) h

@@ -1,9 +1,14 @@
 -- What holds at every place of a list, after a place is replaced.
-use Prim.Native.Nat.{ℕ, zero, suc, _<_}
-use mathlib.Core.Path.{_≡_, refl, ap, sym}
-use mathlib.Core.Bool.{Bool, false}
+use Prim.Native.Nat.{ℕ, zero, suc, _+_, _-_, _<_}
+use mathlib.Core.Path.{_≡_, refl, ap, sym, _∙_}
+use mathlib.Core.Bool.{Bool, true, false, cond}
+use mathlib.Core.Logic.{⊎-elim}
 use mathlib.Core.List.{List, [], _∷_, map}
+use native.Mathlib.Nat.{eq-or-lt-of-le, eq-zero-or-pos}
 use native.Mathlib.Omega.{arith}
+use borrow.Author.Tests.{eqb-true, eqb-false}
+use lib.Dec.{eqb}
+use lib.Seq.{getD-set-same, getD-set-other}
 use lib.ListN.{length, getD, set}
 
 -- what holds at each place, and of the number put in, holds at each place afterwards
@@ -43,3 +48,17 @@ pub map-set : {A B : Type 0} (f : A → B) (xs : List A) (i : ℕ) (x : A) → m
 map-set f [] i x = refl
 map-set f (y ∷ ys) zero x = refl
 map-set f (y ∷ ys) (suc i) x = ap (λ zs. f y ∷ zs) (map-set f ys i x)
+
+-- one of two numbers is the less, or they are equal
+pub by-order : {A : Type 0} (m n : ℕ) → (m < n → A) → (m ≡ n → A) → (n < m → A) → A
+by-order m n l e g = ⊎-elim (λ z. ⊎-elim e l (eq-or-lt-of-le (omega arith))) (λ p. g (omega arith)) (eq-zero-or-pos (m - n))
+
+-- a number of a table raised
+pub raised : (ts : List ℕ) (p w q : ℕ) → p < length ts → getD (set ts p (getD ts p 0 + w)) q 0 ≡ getD ts q 0 + cond (eqb q p) w 0
+raised ts p w q h = go (eqb q p) refl
+  where
+    go : (b : Bool) → eqb q p ≡ b → getD (set ts p (getD ts p 0 + w)) q 0 ≡ getD ts q 0 + cond b w 0
+    go true e =
+        let s : q ≡ p = eqb-true q p e in
+        rw s (getD-set-same ts p (getD ts p 0 + w) 0 h)
+    go false e = getD-set-other ts p q (getD ts p 0 + w) 0 (eqb-false q p e) ∙ omega arith

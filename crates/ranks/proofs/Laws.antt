@@ -12,14 +12,11 @@ use lib.ListN.{length, getD, length-replicate, length-map, List·getD-map}
 use borrow.Author.Tests.{eq-eqb, ne-eqb}
 use Rattle.lists.specs.Limits.{rankLimit}
 use Rattle.lists.specs.Sums.{total, keep}
+use Rattle.lists.proofs.Places.{by-order}
 use Rattle.lists.proofs.Sums.{getD-le-total, total-zeros, getD-zeros, total-le, length-plus, getD-plus, total-plus, length-keep, keep-le, kept, unkept, cond-none}
 use Rattle.split.specs.Split.{splitOf}
 use Rattle.split.proofs.Laws.{length-split, split-none, total-within, split-within, split-whole}
 use Rattle.ranks.specs.Ranks.{atRank, rankGives, chargesFrom, chargesOf}
-
--- one of two numbers is the less, or they are equal
-pub by-order : {A : Type 0} (m n : ℕ) → (m < n → A) → (m ≡ n → A) → (n < m → A) → A
-by-order m n l e g = ⊎-elim (λ z. ⊎-elim e l (eq-or-lt-of-le (omega arith))) (λ p. g (omega arith)) (eq-zero-or-pos (m - n))
 
 -- the weights of a rank ----------------------------------------------------------
 

@@ -13,28 +13,19 @@ use lib.Seq.{drop-cons, getD-set-same, getD-set-other, drop-set-lt}
 use borrow.Author.Tests.{eq-eqb, ne-eqb, eqb-true, eqb-false, lt-ltb, le-ltb}
 use Rattle.lists.specs.Limits.{rankLimit, amountLimit}
 use Rattle.lists.specs.Sums.{total, plus, keep}
-use Rattle.lists.proofs.Fill.{fill-turn, fill-done}
+use Rattle.lists.proofs.Places.{by-order, raised}
 use Rattle.lists.proofs.Sums.{zeros, all-zeros, total-zeros, getD-zeros, total-plus, plus-assoc, plus-none, none-plus, length-keep, keep-le, cond-le, keep-map-step}
-use Rattle.split.specs.Split.{Splits, splitOf, exceeds}
+use Rattle.split.specs.Parts.{Splits}
+use Rattle.split.specs.Split.{splitOf, exceeds}
 use Rattle.split.proofs.Laws.{length-split, total-within, total-of-none, split-within, split-whole, exceeds-none}
 use Rattle.ranks.specs.Ranks.{atRank, rankGives, chargesFrom, chargesOf}
 use Rattle.ranks.specs.Parts.{Weighed, Totals, Next, Marginal, Shared, aboveRank}
-use Rattle.ranks.proofs.Laws.{by-order, length-at, length-shares, length-from, total-from}
+use Rattle.ranks.proofs.Laws.{length-at, length-shares, length-from, total-from}
 
 pub matched : (ws rs : List ℕ) → Weighed ws rs → length rs ≡ length ws
 matched ws rs w = w .as-many ∙ sym (w .long)
 
 -- the totals by rank ---------------------------------------------------------------
-
--- a number of a table raised
-raised : (ts : List ℕ) (p w q : ℕ) → p < length ts → getD (set ts p (getD ts p 0 + w)) q 0 ≡ getD ts q 0 + cond (eqb q p) w 0
-raised ts p w q h = go (eqb q p) refl
-  where
-    go : (b : Bool) → eqb q p ≡ b → getD (set ts p (getD ts p 0 + w)) q 0 ≡ getD ts q 0 + cond b w 0
-    go true e =
-        let s : q ≡ p = eqb-true q p e in
-        rw s (getD-set-same ts p (getD ts p 0 + w) 0 h)
-    go false e = getD-set-other ts p q (getD ts p 0 + w) 0 (eqb-false q p e) ∙ omega arith
 
 -- the table so far, and the weights that are left at each rank
 abbrev pub Adding : List ℕ → List ℕ → List ℕ → ℕ → Type 0
@@ -80,9 +71,9 @@ passed-more ts at from z h p a b =
 
 -- the marginal rank's split ----------------------------------------------------------
 
-pub shares-asked : (rank part whole : ℕ) (ws rs own charges : List ℕ) → Weighed ws rs → Shared part whole (atRank rank ws rs) charges → 0 < part
-    → own ≡ atRank rank ws rs → Splits part whole own charges
-shares-asked rank part whole ws rs own charges w s p e =
+pub shares-asked : (rank part whole : ℕ) (ws rs tied charges : List ℕ) → Weighed ws rs → Shared part whole (atRank rank ws rs) charges → 0 < part
+    → tied ≡ atRank rank ws rs → Splits part whole tied charges
+shares-asked rank part whole ws rs tied charges w s p e =
     let l : length (atRank rank ws rs) ≡ length ws = length-at rank ws rs (matched ws rs w) in
     rw e
     record {
@@ -94,11 +85,11 @@ shares-asked rank part whole ws rs own charges w s p e =
     }
 
 -- where a rank gives nothing, its shares are all 0
-pub unshared : (part : ℕ) (own charges : List ℕ) → part ≡ 0 → length charges ≡ length own → total charges ≡ 0
-    → (charges ≡ splitOf part own) × (false ≡ exceeds (splitOf part own) own)
-unshared part own charges z n t = (
-  all-zeros charges t ∙ zeros (length charges) (splitOf part own) (length-split part own ∙ sym n) (total-within part own (omega arith) ∙ z),
-  sym (exceeds-none (splitOf part own) own (split-within part own (omega arith))),
+pub unshared : (part : ℕ) (tied charges : List ℕ) → part ≡ 0 → length charges ≡ length tied → total charges ≡ 0
+    → (charges ≡ splitOf part tied) × (false ≡ exceeds (splitOf part tied) tied)
+unshared part tied charges z n t = (
+  all-zeros charges t ∙ zeros (length charges) (splitOf part tied) (length-split part tied ∙ sym n) (total-within part tied (omega arith) ∙ z),
+  sym (exceeds-none (splitOf part tied) tied (split-within part tied (omega arith))),
 )
 
 -- what is charged whole ---------------------------------------------------------------
@@ -125,19 +116,6 @@ above-none (w ∷ ws) (r ∷ rs) h = rw (le-ltb rankLimit r (h 0)) (omega (arith
 
 pub length-above : (q : ℕ) (ws rs : List ℕ) → length rs ≡ length ws → length (aboveRank q ws rs) ≡ length ws
 length-above q ws rs e = length-keep (map (ltb q) rs) ws (length-map rs (ltb q) ∙ e)
-
--- numbers added to a list in place, one a turn
-pub add-turn : (f : ℕ → Bool) (rs ws out r : List ℕ) (i x s : ℕ) → i < length rs → i < length ws → i < length out → x ≡ cond (f (getD rs i 0)) (getD ws i 0) 0
-    → s ≡ getD out i 0 + x → take i out ++ plus (keep (map f (drop i rs)) (drop i ws)) (drop i out) ≡ r
-    → take (i + 1) (set out i s) ++ plus (keep (map f (drop (i + 1) rs)) (drop (i + 1) ws)) (drop (i + 1) (set out i s)) ≡ r
-add-turn f rs ws out r i x s hr hw ho e v h =
-    let n : s ≡ x + getD out i 0 = omega arith in
-    rw (drop-set-lt (i + 1) out i s (omega arith))
-    (fill-turn out r _ _ i s ho (rw (keep-map-step f rs ws i x hr hw e, n, add-one, drop-cons out i 0)) h)
-
-pub add-done : (f : ℕ → Bool) (rs ws out r : List ℕ) (i : ℕ) → length rs ≤ i → length out ≤ i
-    → take i out ++ plus (keep (map f (drop i rs)) (drop i ws)) (drop i out) ≡ r → out ≡ r
-add-done f rs ws out r i hr ho h = fill-done out r _ i ho (rw (drop-of-length-le rs hr, drop-of-length-le out ho)) h
 
 -- from the highest rank down to the marginal one ----------------------------------------
 

@@ -1,4 +1,4 @@
--- What the parts of `charge_by_rank` promise each other. At most one rank, the marginal one, is charged in part: those above it are charged
+-- What the parts of `ranks` promise each other and their callers. No rule of document 01 is here. At most one rank, the marginal one, is charged in part: those above it are charged
 -- whole, and those below it nothing.
 use Prim.Native.Nat.{ℕ, _-_, _≤_, _<_}
 use mathlib.Core.Path.{_≡_}
@@ -10,7 +10,7 @@ use Rattle.lists.specs.Sums.{total, plus, keep}
 use Rattle.split.specs.Split.{splitOf}
 use Rattle.ranks.specs.Ranks.{atRank, chargesOf}
 
--- what each part needs of the weights and the ranks
+-- what each part needs of the weights and the ranks. Rank 0 is none: nobody of it is charged.
 pub record Weighed (weights ranks : List ℕ) : Type 0 where
   pub weights-fit : (k : ℕ) → getD weights k 0 ≤ amountLimit
   pub long : length weights ≡ memberLimit
@@ -42,9 +42,9 @@ pub record Marginal (sum : ℕ) (weights ranks : List ℕ) (rank part whole char
   pub charged-least : part ≤ charged
 
 -- a part of what a rank has is shared over its weights, into charges that are all 0
-pub record Shared (part whole : ℕ) (own charges : List ℕ) : Type 0 where
+pub record Shared (part whole : ℕ) (tied charges : List ℕ) : Type 0 where
   pub part-fits : part ≤ allocationLimit
-  pub part-within : part ≤ total own
-  pub whole-is : 0 < part → whole ≡ total own
+  pub part-within : part ≤ total tied
+  pub whole-is : 0 < part → whole ≡ total tied
   pub long : length charges ≡ memberLimit
   pub none : total charges ≡ 0

@@ -1,10 +1,10 @@
 -- Document 01, "Declaring a default", layer 4: a sum charged to weights by rank, from the highest rank down.
-use Prim.Native.Nat.{ℕ, zero, suc, _-_, min, _≤_}
+use Prim.Native.Nat.{ℕ, zero, suc, _-_, min}
 use mathlib.Core.Path.{_≡_, refl}
 use mathlib.Core.List.{List, [], _∷_, map}
 use lib.Dec.{eqb}
-use lib.ListN.{length, getD, replicate}
-use Rattle.lists.specs.Limits.{memberLimit, rankLimit, amountLimit, allocationLimit}
+use lib.ListN.{length, replicate}
+use Rattle.lists.specs.Limits.{rankLimit}
 use Rattle.lists.specs.Sums.{total, plus, keep}
 use Rattle.split.specs.Split.{shareOf, splitOf}
 
@@ -26,14 +26,6 @@ chargesFrom (suc q) left weights ranks =
 
 unfoldable pub chargesOf : ℕ → List ℕ → List ℕ → List ℕ
 chargesOf sum weights ranks = chargesFrom rankLimit sum weights ranks
-
--- What the callers of `charge_by_rank` see to. Rank 0 is none: nobody of it is charged.
-pub record Charges (sum : ℕ) (weights ranks : List ℕ) : Type 0 where
-  pub sum-fits : sum ≤ allocationLimit
-  pub weights-fit : (k : ℕ) → getD weights k 0 ≤ amountLimit
-  pub long : length weights ≡ memberLimit
-  pub as-many : length ranks ≡ memberLimit
-  pub ranks-fit : (k : ℕ) → getD ranks k 0 ≤ rankLimit
 
 -- 8 over weights 3, 3, 4, 9 of ranks 2, 2, 1, 0: rank 2 is charged whole, and 2 are left for rank 1; rank 0 is none
 two-ranks : chargesFrom 3 8 (3 ∷ 3 ∷ 4 ∷ 9 ∷ []) (2 ∷ 2 ∷ 1 ∷ 0 ∷ []) ≡ 3 ∷ 3 ∷ 2 ∷ 0 ∷ []

@@ -2,6 +2,7 @@
 //
 // At most one rank, the marginal one, is charged in part. So the totals by rank find it, one split shares what it gives, and no rank that is
 // charged whole or not at all costs a division.
+use lists::RANK_LIMIT;
 ghost use mathlib.Core.Path.{_≡_};
 ghost use mathlib.Core.Bool.{cond};
 ghost use Prim.Native.Nat.{ℕ, _≤_, _<_};
@@ -10,7 +11,7 @@ ghost use lib.ListN.{length, getD};
 ghost use Rattle.lists.specs.Limits.{memberLimit, rankLimit, allocationLimit};
 ghost use Rattle.lists.specs.Sums.{total, plus};
 ghost use Rattle.split.specs.Split.{splitOf, exceeds};
-ghost use Rattle.ranks.specs.Ranks.{Charges, atRank, chargesOf};
+ghost use Rattle.ranks.specs.Ranks.{atRank, chargesOf};
 ghost use Rattle.ranks.specs.Parts.{Weighed, Totals, Next, Marginal, Shared, aboveRank};
 
 // The charges, place by place, their total, and whether one comes out above its weight.
@@ -67,7 +68,7 @@ fn marginal(sum: u64, weights: &[u64; 64], ranks: &[u8]) -> Margin
 {
     let totals = rank_totals(weights, ranks);
     let mut left = sum;
-    let mut rank = next_rank(&totals, 64);
+    let mut rank = next_rank(&totals, RANK_LIMIT);
     while rank > 0 {
         let place = rank as usize;
         let whole = totals[place];
@@ -90,7 +91,7 @@ fn marginal(sum: u64, weights: &[u64; 64], ranks: &[u8]) -> Margin
     }
 }
 
-// A member's weight where the rank is its own, and else 0.
+// A member's weight where it is of the rank, and else 0.
 fn weight_at(rank: u8, byte: u8, weight: u64) -> u64
     ensures { λ r. ⌜ r ≡ cond (eqb rank byte) weight 0 ⌝ }
 {
@@ -105,11 +106,11 @@ fn weights_at(rank: u8, weights: &[u64; 64], ranks: &[u8]) -> [u64; 64]
     requires { ⌜ Weighed (now weights) (now ranks) ⌝ }
     ensures { λ r. ⌜ r ≡ atRank rank (now (weights .entry)) (now (ranks .entry)) ⌝ }
 {
-    let mut own = [0u64; 64];
+    let mut tied = [0u64; 64];
     for i in 0..64 {
-        own[i] = weight_at(rank, ranks[i], weights[i]);
+        tied[i] = weight_at(rank, ranks[i], weights[i]);
     }
-    own
+    tied
 }
 
 // What the marginal rank gives, shared over its members' weights: the charges, so far all 0, become its shares. The answer is whether a share
@@ -129,11 +130,11 @@ fn share_marginal(
     if part == 0 {
         return false;
     }
-    let own = weights_at(rank, weights, ranks);
-    split::split(part, whole, &own, charges)
+    let tied = weights_at(rank, weights, ranks);
+    split::split(part, whole, &tied, charges)
 }
 
-// A member's weight where its own rank is above, and else 0.
+// A member's weight where its rank is above, and else 0.
 fn weight_above(rank: u8, byte: u8, weight: u64) -> u64
     ensures { λ r. ⌜ r ≡ cond (ltb rank byte) weight 0 ⌝ }
 {
@@ -160,7 +161,7 @@ fn charge_above(rank: u8, above: u64, weights: &[u64; 64], ranks: &[u8], charges
 
 // `sum` charged to `weights` by rank. The total needs no second addition: it is the sum, less what no rank could give.
 pub fn charge_by_rank(sum: u64, weights: &[u64; 64], ranks: &[u8]) -> Charged
-    requires { ⌜ Charges sum (now weights) (now ranks) ⌝ }
+    requires { ⌜ (sum ≤ allocationLimit) × Weighed (now weights) (now ranks) ⌝ }
     ensures { λ r. ⌜ (r .charges ≡ chargesOf sum (now (weights .entry)) (now (ranks .entry))) × (r .total ≡ total (r .charges)) ⌝ }
     ensures { λ r. ⌜ r .over ≡ exceeds (r .charges) (now (weights .entry)) ⌝ }
 {

@@ -1,11 +1,8 @@
 -- Document 01, "The split": a sum shared over weights, in rising order.
-use Prim.Native.Nat.{ℕ, _+_, _-_, _*_, _/_, _≤_}
-use mathlib.Core.Path.{_≡_}
+use Prim.Native.Nat.{ℕ, _+_, _-_, _*_, _/_}
 use mathlib.Core.Bool.{Bool, false, _||_}
 use mathlib.Core.List.{List, [], _∷_}
 use lib.Dec.{ltb}
-use lib.ListN.{length, getD}
-use Rattle.lists.specs.Limits.{memberLimit, amountLimit, allocationLimit}
 use Rattle.lists.specs.Sums.{total}
 
 -- "w times the sum still left, divided by the weights still left (its own included), rounded down". A weight of 0 takes 0, also where no
@@ -24,12 +21,3 @@ unfoldable pub exceeds : List ℕ → List ℕ → Bool
 exceeds [] weights = false
 exceeds (s ∷ shares) [] = ltb 0 s || exceeds shares []
 exceeds (s ∷ shares) (w ∷ weights) = ltb w s || exceeds shares weights
-
--- What the callers of `split` see to: the bounds keep the product of a weight and the sum, at most 10,400,000,000,000,000,000, within 64
--- bits.
-pub record Splits (sum whole : ℕ) (weights shares : List ℕ) : Type 0 where
-  pub sum-fits : sum ≤ allocationLimit
-  pub whole-is : whole ≡ total weights
-  pub weights-fit : (k : ℕ) → getD weights k 0 ≤ amountLimit
-  pub few : length weights ≤ memberLimit
-  pub as-many : length shares ≡ length weights

@@ -2,7 +2,8 @@
 ghost use mathlib.Core.Path.{_≡_};
 ghost use Prim.Native.Nat.{_≤_};
 ghost use Rattle.lists.specs.Limits.{amountLimit, allocationLimit};
-ghost use Rattle.split.specs.Split.{Splits, shareOf, splitOf, exceeds};
+ghost use Rattle.split.specs.Split.{shareOf, splitOf, exceeds};
+ghost use Rattle.split.specs.Parts.{Splits};
 
 // One weight's share of what is left of the sum. A weight of 0 takes nothing, and costs no division.
 fn share(left: u64, weight: u64, rest: u64) -> u64

@@ -5,4 +5,5 @@ pub mod Reply
 pub mod Default
 pub mod Calls
 pub mod View
+pub mod Parts
 pub mod Examples

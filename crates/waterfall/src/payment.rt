@@ -6,9 +6,22 @@ use admission::amount_refusal;
 use figures::figure_of;
 use figures::replace;
 ghost use mathlib.Core.Path.{_≡_};
+ghost use Prim.Native.Nat.{_≤_, _<_};
+ghost use lib.ListN.{length};
+ghost use Rattle.lists.specs.Limits.{memberLimit};
 ghost use Rattle.waterfall.specs.Register.{GivenBack};
 ghost use Rattle.waterfall.specs.Calls.{paymentRefusal, paymentOf};
 ghost use Rattle.waterfall.specs.Reply.{Says, nothing};
+ghost use Rattle.waterfall.specs.Parts.{Owes};
+
+// The register in which a member has `left` outstanding. What was called since the last close stands.
+fn owing(mut register: Register, member: u64, left: u64) -> Register
+    requires { ⌜ (length (register .outstanding) ≡ memberLimit) × ((0 < member) × (member ≤ memberLimit)) ⌝ }
+    ensures { λ r. ⌜ Owes register member left r ⌝ }
+{
+    replace(&mut register.outstanding, member, left);
+    register
+}
 
 pub fn pay(register: Register, member: u64, amount: u64) -> Outcome
     requires { ⌜ GivenBack register ⌝ }
@@ -24,8 +37,7 @@ pub fn pay(register: Register, member: u64, amount: u64) -> Outcome
             register,
         };
     }
-    let mut next = register;
-    replace(&mut next.outstanding, member, due - amount);
+    let next = owing(register, member, due - amount);
     Outcome {
         reply: Reply::Accepted,
         register: next,

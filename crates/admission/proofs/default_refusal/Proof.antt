@@ -16,59 +16,67 @@ use Rattle.admission.proofs.Passed.{not-standing, stands, place}
 use Rattle.admission.proofs.default_refusal.Statement.{statement}
 use Rattle.admission.proofs.default_refusal.Tie as tie
 
--- once 11 and 12 are passed: where the member's status stands, and that the row goes on
-module _ (c : tie.Else1) where
+-- what was found before the first test
+module _ (u : tie.After-unready) where
+  abbrev found : tie.After-standing
+  found = u .before .before
+
   abbrev begun : tie.Start
-  begun = c .before .before .before .before
+  begun = found .before .before .before
 
-  at : let a = begun .args in (0 < a .member) × (a .member ≤ memberLimit)
-  at = place (begun .args .t1) (begun .args .member) 0 (begun .pre) (sym (c .before .standing .ensures) ∙ omega arith)
+-- once 11 and 12 are passed: where the member's status stands, and that the row goes on; so it does past 13 and past 14
+module _ (c : tie.Else1) where
+  abbrev start : tie.Start
+  start = begun (c .before)
 
-  past12 : {x rest : ℕ} → x ≡ rest → x ≡ standing (begun .args .t1) (begun .args .member) rest
-  past12 {x} {rest} q = stands rest (begun .args .t1) (begun .args .member) _ (c .before .standing .ensures) (omega arith) q
+  at : let a = start .args in (0 < a .member) × (a .member ≤ memberLimit)
+  at = place (start .args .t1) (start .args .member) 0 (start .pre) (sym (found (c .before) .standing .ensures) ∙ omega arith)
 
--- so it does past 13 and past 14
-past13 : (c : tie.Else2) {x : ℕ} → let a = begun (c .before .before) .args in
+  past12 : {x rest : ℕ} → x ≡ rest → x ≡ standing (start .args .t1) (start .args .member) rest
+  past12 {x} {rest} q = stands rest (start .args .t1) (start .args .member) _ (found (c .before) .standing .ensures) (omega arith) q
+
+past13 : (c : tie.Else2) {x : ℕ} → let a = start (c .before) .args in
     x ≡ check (unready (length (a .ranks .now)) (a .slip)) 14 (check (misranked (others (a .t1) (a .member)) (a .ranks .now)) 15 0)
     → x ≡ admission (a .t1) (a .member) (a .loss) (a .ranks .now) (a .slip) 0
-past13 c q = past12 (c .before .before) (check-no _ _ _ _ (c .before .excessive .ensures) (c .if2 .left) q)
+past13 c q = past12 (c .before) (check-no _ _ _ _ (c .before .before .before .excessive .ensures) (c .if2 .left) q)
 
-past14 : (c : tie.Else3) {x : ℕ} → let a = begun (c .before .before .before .before) .args in
+past14 : (c : tie.Else3) {x : ℕ} → let a = start (c .before .before) .args in
     x ≡ check (misranked (others (a .t1) (a .member)) (a .ranks .now)) 15 0
     → x ≡ admission (a .t1) (a .member) (a .loss) (a .ranks .now) (a .slip) 0
-past14 c q = past13 (c .before .before) (check-no _ _ _ _ (c .before .unready .ensures) (c .if3 .left) q)
+past14 c q = past13 (c .before) (check-no _ _ _ _ (c .before .before .before .unready .ensures) (c .if3 .left) q)
 
 standing-requires : tie.Need-standing-requires
 standing-requires c κs = search needs
 
-returns : tie.Need-returns
-returns c =
-    let a = c .before .before .before .before .args in
-    not-standing _ (a .t1) (a .member) _ (c .before .standing .ensures) (c .if1 .taken)
-
 excessive-requires : tie.Need-excessive-requires
 excessive-requires c κs = search needs
-
-returns-2 : tie.Need-returns-2
-returns-2 c = past12 (c .before .before) (check-yes _ _ _ _ (c .before .excessive .ensures) (c .if2 .taken) refl)
 
 unready-requires : tie.Need-unready-requires
 unready-requires c κs = search needs
 
+returns : tie.Need-returns
+returns c =
+    let a = begun (c .before) .args in
+    not-standing _ (a .t1) (a .member) _ (found (c .before) .standing .ensures) (c .if1 .taken)
+
+returns-2 : tie.Need-returns-2
+returns-2 c = past12 (c .before) (check-yes _ _ _ _ (c .before .before .before .excessive .ensures) (c .if2 .taken) refl)
+
 returns-3 : tie.Need-returns-3
-returns-3 c = past13 (c .before .before) (check-yes _ _ _ _ (c .before .unready .ensures) (c .if3 .taken) refl)
+returns-3 c = past13 (c .before) (check-yes _ _ _ _ (c .before .before .before .unready .ensures) (c .if3 .taken) refl)
 
 sub-at : tie.Need-sub-at
-sub-at c = omega (arith, at (c .before .before .before .before))
+sub-at c = omega (arith, at (c .before .before))
 
 array-write-read : tie.Need-array-write-read
-array-write-read c = omega (arith, at (c .before .before .before .before))
+array-write-read c = omega (arith, at (c .before .before))
 
 misranked-requires : tie.Need-misranked-requires
 misranked-requires c κs =
-    let u = c .before .before in
-    let b = begun (u .before .before .before) in
-    let ready = neither (not (eqb (length (b .args .ranks .now)) memberLimit)) _ (sym (u .unready .ensures) ∙ c .before .if3 .left) in
+    let e = c .before in
+    let u = e .before .before .before in
+    let b = begun u in
+    let ready = neither (not (eqb (length (b .args .ranks .now)) memberLimit)) _ (sym (u .unready .ensures) ∙ e .if3 .left) in
     (simp length-set (b .pre), eqb-true _ _ (not-false _ (ready .0)))
 
 returns-4 : tie.Need-returns-4
@@ -82,10 +90,10 @@ default-refusal-spec =
     tie.close
     (tie.spec
     standing-requires
-    returns
     excessive-requires
-    returns-2
     unready-requires
+    returns
+    returns-2
     returns-3
     sub-at
     array-write-read

@@ -33,7 +33,6 @@ same-length : tie.Need-same-length
 same-length c = search needs
 
 returns : tie.Need-returns
-unfolding appliedOf slipLeft refusalOf allocatedBy
 returns c =
     let called = c .before .before in
     let is = called .before .before .before .call .given .1 in
@@ -41,16 +40,13 @@ returns c =
     (rw is (d .0), (rw is (d .1 .0), (d .1 .1 .0, rw is (d .1 .1 .1))))
 
 returns-2 : tie.Need-returns-2
-unfolding appliedOf slipLeft refusalOf allocatedBy
 returns-2 c = let is = c .before .before .call2 .given .1 in (rw is (c .pay .ensures .0), (rw is refl, (c .pay .ensures .1 .0, rw is (c .pay .ensures .1 .1))))
 
 returns-3 : tie.Need-returns-3
-unfolding appliedOf slipLeft refusalOf allocatedBy
 returns-3 c =
     let is = c .before .before .call3 .given .1 in (rw is (c .replenish .ensures .0), (rw is refl, (c .replenish .ensures .1 .0, rw is (c .replenish .ensures .1 .1))))
 
 returns-4 : tie.Need-returns-4
-unfolding appliedOf slipLeft refusalOf allocatedBy
 returns-4 c = let is = c .before .enum-told .given .1 in (rw is (c .close .ensures .0), (rw is refl, (c .close .ensures .1 .0, rw is (c .close .ensures .1 .1))))
 
 pub apply-spec : {M : Type 1} → statement M

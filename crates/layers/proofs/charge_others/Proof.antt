@@ -22,14 +22,15 @@ slice-aggregate-charge-by-rank c = search needs
 charge-by-rank-requires : tie.Need-charge-by-rank-requires
 charge-by-rank-requires c κs =
     let b = c .before .before .before in
-    let a = b .args in
-    record {
-      sum-fits = b .pre .sum-fits;
-      weights-fit = b .pre .contribution-fits;
-      long = b .pre .contribution-length;
-      as-many = omega arith;
-      ranks-fit = λ k. rw (c .before .read-ranks .ensures) (ranks-fit (map (eqb live) (a .status .now)) (a .ranks .now) (b .pre .well-ranked) k);
-    }
+    let a = b .args in (
+      b .pre .sum-fits,
+      record {
+        weights-fit = b .pre .contribution-fits;
+        long = b .pre .contribution-length;
+        as-many = omega arith;
+        ranks-fit = λ k. rw (c .before .read-ranks .ensures) (ranks-fit (map (eqb live) (a .status .now)) (a .ranks .now) (b .pre .well-ranked) k);
+      },
+    )
 
 returns : tie.Need-returns
 returns c =

@@ -4,10 +4,10 @@ use Rattle.layers.proofs.read_rank.Statement.{statement}
 use Rattle.layers.proofs.read_rank.Tie as tie
 
 returns : tie.Need-returns
-returns c = live-counts _ _ (c .if1 .taken)
+returns c = others-not _ _ (c .if1 .taken)
 
 returns-2 : tie.Need-returns-2
-returns-2 c = others-not _ _ (c .if1 .left)
+returns-2 c = live-counts _ _ (c .if1 .left)
 
 pub read-rank-spec : {M : Type 1} → statement M
 read-rank-spec = tie.close (tie.spec returns returns-2)

@@ -8,11 +8,12 @@ use lib.Dec.{ltb}
 use lib.ListN.{length, getD, take, drop, length-set}
 use lib.Seq.{getD-set-other}
 use borrow.Author.Needs.{needs}
+use Rattle.lists.proofs.Fill.{add-turn, add-done}
 use Rattle.lists.specs.Limits.{amountLimit, allocationLimit}
 use Rattle.lists.specs.Sums.{plus}
 use Rattle.lists.proofs.Sums.{plus-none, cond-le}
 use Rattle.ranks.specs.Parts.{aboveRank}
-use Rattle.ranks.proofs.Parts.{matched, length-above, add-turn, add-done}
+use Rattle.ranks.proofs.Parts.{matched, length-above}
 use Rattle.ranks.proofs.charge_above.Statement.{statement}
 use Rattle.ranks.proofs.charge_above.Tie as tie
 

@@ -38,7 +38,7 @@ share-marginal-requires c κs =
     let m = c .before .marginal .ensures in (
       search needs,
       record {
-        part-fits = omega (arith, m .part-fits, s .pre .sum-fits);
+        part-fits = omega (arith, m .part-fits, s .pre .0);
         part-within = m .part-within;
         whole-is = m .whole-is;
         long = refl;
@@ -57,7 +57,7 @@ charge-above-requires c κs =
     let r = c .before .before .share-marginal in (
       (search needs, m .ensures .above-is),
       (
-        ap length (r .ensures .0) ∙ length-shares (a .weights .now) (a .ranks .now) (m .result .rank) (m .result .part) (s .pre .as-many ∙ sym (s .pre .long)) ∙ s .pre .long,
+        ap length (r .ensures .0) ∙ length-shares (a .weights .now) (a .ranks .now) (m .result .rank) (m .result .part) (s .pre .1 .as-many ∙ sym (s .pre .1 .long)) ∙ s .pre .1 .long,
         λ k.
             omega (
               arith,

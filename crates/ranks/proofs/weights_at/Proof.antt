@@ -14,11 +14,11 @@ use Rattle.ranks.proofs.weights_at.Statement.{statement}
 use Rattle.ranks.proofs.weights_at.Tie as tie
 
 abbrev Inv-loop : tie.InvT-loop
-Inv-loop rank weights ranks own₀ i₀ own i =
-    (i ≤ 64) × (length own ≡ 64) × (take i own ++ atRank rank (drop i weights) (drop i ranks) ≡ atRank rank weights ranks)
+Inv-loop rank weights ranks tied₀ i₀ tied i =
+    (i ≤ 64) × (length tied ≡ 64) × (take i tied ++ atRank rank (drop i weights) (drop i ranks) ≡ atRank rank weights ranks)
 
 abbrev μ-loop : tie.MeasureT-loop
-μ-loop rank weights ranks own₀ i₀ own i = 64 - i
+μ-loop rank weights ranks tied₀ i₀ tied i = 64 - i
 
 loop-holds : tie.Need-loop-holds Inv-loop μ-loop
 loop-holds c = search needs
@@ -35,11 +35,11 @@ element-copy-out-weight-at c = search needs
 weight-at-requires : tie.Need-weight-at-requires Inv-loop μ-loop
 weight-at-requires c κs = search needs
 
-mul-own : tie.Need-mul-own Inv-loop μ-loop
-mul-own c = search needs
+mul-tied : tie.Need-mul-tied Inv-loop μ-loop
+mul-tied c = search needs
 
-array-write-own : tie.Need-array-write-own Inv-loop μ-loop
-array-write-own c = search needs
+array-write-tied : tie.Need-array-write-tied Inv-loop μ-loop
+array-write-tied c = search needs
 
 add-i : tie.Need-add-i Inv-loop μ-loop
 add-i c = search needs
@@ -53,14 +53,14 @@ loop-again c =
     let a = l .before .before .args in (
       omega arith,
       simp length-set (l .loop .inv .1),
-      fill-turn (l .loop .own) _ _ _ (l .loop .i) _ (omega arith) (keep-map-step (eqb (a .rank)) (a .ranks .now) (a .weights .now) (l .loop .i) (c .weight-at .result) (omega arith) (omega arith) (c .weight-at .ensures)) (l .loop .inv .2),
+      fill-turn (l .loop .tied) _ _ _ (l .loop .i) _ (omega arith) (keep-map-step (eqb (a .rank)) (a .ranks .now) (a .weights .now) (l .loop .i) (c .weight-at .result) (omega arith) (omega arith) (c .weight-at .ensures)) (l .loop .inv .2),
     )
 
 returns : tie.Need-returns Inv-loop μ-loop
 returns c =
     let l = c .before in
     let a = l .before .before .args in
-    fill-done (l .loop .own) _ _ (l .loop .i) (omega arith) (ap (λ (rs : List ℕ). atRank (a .rank) (drop (l .loop .i) (a .weights .now)) rs) (drop-of-length-le (a .ranks .now) {i = l .loop .i} (omega arith))) (l .loop .inv .2)
+    fill-done (l .loop .tied) _ _ (l .loop .i) (omega arith) (ap (λ (rs : List ℕ). atRank (a .rank) (drop (l .loop .i) (a .weights .now)) rs) (drop-of-length-le (a .ranks .now) {i = l .loop .i} (omega arith))) (l .loop .inv .2)
 
 pub weights-at-spec : {M : Type 1} → statement M
 weights-at-spec =
@@ -73,8 +73,8 @@ weights-at-spec =
     mul-weight-at
     element-copy-out-weight-at
     weight-at-requires
-    mul-own
-    array-write-own
+    mul-tied
+    array-write-tied
     add-i
     loop-less
     loop-again

@@ -1,14 +1,32 @@
 -- `waterfall::payment::pay` meets its contract.
-use mathlib.Core.Path.{_≡_}
+use Prim.Native.Nat.{ℕ, _-_}
+use mathlib.Core.Path.{_≡_, ap, _∙_}
 use native.Mathlib.Omega.{arith}
 use borrow.Author.Needs.{needs}
-use Rattle.figures.specs.Figures.{figure}
+use Rattle.figures.specs.Figures.{figure, replace}
 use Rattle.admission.specs.Admission.{unfit}
+use Rattle.waterfall.specs.Parts.{Owes}
+use Rattle.waterfall.specs.declared.Register.{Register}
 use Rattle.waterfall.specs.Calls.{paidOf, paymentRefusal, paymentOf}
 use Rattle.waterfall.proofs.Answer.{Fit, fit, within-bound, refused, accepted, says-accepted}
 use Rattle.waterfall.proofs.Given.{given-paid}
 use Rattle.waterfall.proofs.payment.pay.Statement.{statement}
 use Rattle.waterfall.proofs.payment.pay.Tie as tie
+
+is-paid : (r : Register) (member amount : ℕ) (next : Register) (left : ℕ) → left ≡ figure (r .outstanding) member - amount → Owes r member left next → next ≡ paidOf r member amount
+unfolding paidOf
+is-paid r member amount next left e o = λ i.
+    record {
+      status = o .status-is i;
+      margin = o .margin-is i;
+      contribution = o .contribution-is i;
+      requirement = o .requirement-is i;
+      cap = o .cap-is i;
+      outstanding = (o .outstanding-is ∙ ap (replace (r .outstanding) member) e) i;
+      called = o .called-is i;
+      tranche1 = o .tranche1-is i;
+      tranche2 = o .tranche2-is i;
+    }
 
 -- the number that is found, at what is outstanding
 module _ (c : tie.After-amount-refusal) where
@@ -41,23 +59,21 @@ returns : tie.Need-returns
 unfolding paymentOf
 returns c = refused _ _ _ _ _ (begun (c .before) .pre) _ (found (c .before)) (c .if1 .taken)
 
-sub-replace : tie.Need-sub-replace
-sub-replace c =
-    let i = c .before in
-    let a = begun (i .before) .args in
-    omega (arith, due (i .before) .figure-of .ensures, within-bound (a .amount) (a .amount) (figure (a .t1 .outstanding) (a .member)) (fits i .fits))
+sub-owing : tie.Need-sub-owing
+sub-owing c =
+    let a = begun (c .before) .args in
+    omega (arith, due (c .before) .figure-of .ensures, within-bound (a .amount) (a .amount) (figure (a .t1 .outstanding) (a .member)) (fits c .fits))
 
-replace-requires : tie.Need-replace-requires
-replace-requires c κs =
-    let i = c .before in
-    (begun (i .before) .pre .outstanding-length, (fits i .least, fits i .most))
+owing-requires : tie.Need-owing-requires
+owing-requires c κs =
+    (begun (c .before) .pre .outstanding-length, (fits c .least, fits c .most))
 
 returns-2 : tie.Need-returns-2
-unfolding paymentOf paidOf
+unfolding paymentOf
 returns-2 c =
-    let i = c .before .before in
+    let i = c .before in
     let b = begun (i .before) in
-    rw (c .replace .ensures, due (i .before) .figure-of .ensures)
+    rw (is-paid (b .args .t1) (b .args .member) (b .args .amount) (c .owing .result) _ (ap (λ (n : ℕ). n - b .args .amount) (due (i .before) .figure-of .ensures)) (c .owing .ensures))
     (accepted _ _ _ _ _ (b .pre) _ (found (i .before)) (i .if1 .left) (λ _. given-paid (b .args .t1) (b .pre) (b .args .member) (b .args .amount)) says-accepted)
 
 pub pay-spec : {M : Type 1} → statement M
@@ -67,6 +83,6 @@ pay-spec =
     figure-of-requires
     amount-refusal-requires
     returns
-    sub-replace
-    replace-requires
+    sub-owing
+    owing-requires
     returns-2)

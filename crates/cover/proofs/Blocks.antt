@@ -13,7 +13,7 @@ use Rattle.lists.proofs.Checks.{check-by, check-lt, check-nlt, check-eq, check-
 use borrow.Author.Tests.{ltb-true, ltb-false}
 use Rattle.sheets.specs.Bytes.{nonzero}
 use Rattle.lists.specs.Highest.{highest, without}
-use Rattle.cover.specs.Cover.{Loss, memberLosses, coverSum, earliestWith, flaggedLoss, flaggedSum}
+use Rattle.cover.specs.Cover.{StressLoss, memberLosses, coverSum, earliestWith, flaggedLoss, flaggedSum}
 use Rattle.cover.specs.Parts.{blockOf, worseOf}
 use Rattle.cover.specs.declared.Block.{Block}
 use Rattle.cover.specs.declared.Worst.{Worst}
@@ -27,7 +27,7 @@ block-path : {t u r s f g : ℕ} → t ≡ u → r ≡ s → f ≡ g
 block-path p q r = λ i. record { top = p i; second = q i; flagged = r i }
 
 -- a record x, of a loss and a flag, joins the block of the records xs; `flagged` is what it adds to the flagged losses
-module _ (b : Block) (xs : List Loss) (x : Loss) (loss weak flagged : ℕ) (is : b ≡ blockOf xs) (loss-is : x .loss ≡ loss) (weak-is : x .weak ≡ weak)
+module _ (b : Block) (xs : List StressLoss) (x : StressLoss) (loss weak flagged : ℕ) (is : b ≡ blockOf xs) (loss-is : x .loss ≡ loss) (weak-is : x .weak ≡ weak)
     (flagged-is : flagged ≡ cond (nonzero weak) loss 0) where
   flagged-joined : b .flagged + flagged ≡ flaggedSum (x ∷ xs)
   unfolding blockOf flaggedSum
@@ -51,18 +51,18 @@ module _ (b : Block) (xs : List Loss) (x : Loss) (loss weak flagged : ℕ) (is :
 -- the worst of blocks ---------------------------------------------------------------
 
 -- the worst block so far, after further blocks
-unfoldable pub worstOf : Worst → List (List Loss) → Worst
+unfoldable pub worstOf : Worst → List (List StressLoss) → Worst
 worstOf w [] = w
 worstOf w (b ∷ bs) = worstOf (worseOf w (blockOf b)) bs
 
 abbrev pub nothing : Worst
 nothing = record { cover = 0; weak = 0 }
 
-sum-is : (b : List Loss) → blockOf b .top + blockOf b .second ≡ coverSum b
+sum-is : (b : List StressLoss) → blockOf b .top + blockOf b .second ≡ coverSum b
 unfolding blockOf coverSum
 sum-is b = refl
 
-worse-cover : (w : Worst) (b : List Loss) → worseOf w (blockOf b) .cover ≡ max (w .cover) (coverSum b)
+worse-cover : (w : Worst) (b : List StressLoss) → worseOf w (blockOf b) .cover ≡ max (w .cover) (coverSum b)
 worse-cover w b =
     rw (sum-is b)
     (check-by (λ (v : Worst). v .cover ≡ max (w .cover) (coverSum b)) (ltb (w .cover) (coverSum b))
@@ -71,27 +71,27 @@ worse-cover w b =
     (λ t. omega (arith, ltb-true (w .cover) (coverSum b) t))
     (λ t. omega (arith, ltb-false (w .cover) (coverSum b) t)))
 
-abbrev most : List (List Loss) → ℕ
+abbrev most : List (List StressLoss) → ℕ
 most bs = highest (map coverSum bs)
 
-worst-cover : (w : Worst) (bs : List (List Loss)) → worstOf w bs .cover ≡ max (w .cover) (most bs)
+worst-cover : (w : Worst) (bs : List (List StressLoss)) → worstOf w bs .cover ≡ max (w .cover) (most bs)
 unfolding worstOf highest
 worst-cover w [] = omega arith
 worst-cover w (b ∷ bs) = omega (arith, worst-cover (worseOf w (blockOf b)) bs, worse-cover w b)
 
-abbrev flaggedWith : ℕ → List (List Loss) → ℕ
+abbrev flaggedWith : ℕ → List (List StressLoss) → ℕ
 flaggedWith c bs = flaggedSum (earliestWith c bs)
 
-worse-yes : (w : Worst) (b : List Loss) → w .cover < coverSum b → worseOf w (blockOf b) ≡ record { cover = coverSum b; weak = flaggedSum b }
+worse-yes : (w : Worst) (b : List StressLoss) → w .cover < coverSum b → worseOf w (blockOf b) ≡ record { cover = coverSum b; weak = flaggedSum b }
 unfolding blockOf coverSum
 worse-yes w b h = sym (check-lt _ _ (w .cover) (coverSum b) h refl)
 
-worse-no : (w : Worst) (b : List Loss) → coverSum b ≤ w .cover → worseOf w (blockOf b) ≡ w
+worse-no : (w : Worst) (b : List StressLoss) → coverSum b ≤ w .cover → worseOf w (blockOf b) ≡ w
 unfolding blockOf coverSum
 worse-no w b h = sym (check-nlt _ _ (w .cover) (coverSum b) h refl)
 
 -- a block in front of others: the worst is among these where they cover more, and else the block itself
-module _ (c x : ℕ) (b : List Loss) (bs : List (List Loss)) where
+module _ (c x : ℕ) (b : List StressLoss) (bs : List (List StressLoss)) where
   abbrev answer : ℕ
   answer = check (ltb c (max (coverSum b) (most bs))) (flaggedWith (max (coverSum b) (most bs)) (b ∷ bs)) x
 
@@ -110,7 +110,7 @@ module _ (c x : ℕ) (b : List Loss) (bs : List (List Loss)) where
       (ap flaggedSum
       (check-eq b (earliestWith (max (coverSum b) (most bs)) bs) (coverSum b) (max (coverSum b) (most bs)) (omega arith) refl))
 
-worst-weak : (w : Worst) (bs : List (List Loss))
+worst-weak : (w : Worst) (bs : List (List StressLoss))
     → worstOf w bs .weak ≡ check (ltb (w .cover) (most bs)) (flaggedWith (most bs) bs) (w .weak)
 unfolding worstOf highest
 worst-weak w [] = check-nlt _ _ (w .cover) 0 zero-le refl
@@ -133,26 +133,26 @@ worst-weak w (b ∷ bs) =
     (below (w .cover) (coverSum b))
 
 -- a block that covers nothing has no flagged losses
-none-flagged : (b : List Loss) → highest (memberLosses b) ≡ 0 → flaggedSum b ≡ 0
+none-flagged : (b : List StressLoss) → highest (memberLosses b) ≡ 0 → flaggedSum b ≡ 0
 unfolding memberLosses highest flaggedSum
 none-flagged [] e = refl
 none-flagged (r ∷ b) e = omega (arith, none-flagged b (omega arith), flagged-most r)
   where
-    flagged-most : (r : Loss) → flaggedLoss r ≤ r .loss
+    flagged-most : (r : StressLoss) → flaggedLoss r ≤ r .loss
     flagged-most r = cond-le (nonzero (r .weak)) (r .loss)
 
-none-cover : (b : List Loss) → coverSum b ≡ 0 → flaggedSum b ≡ 0
+none-cover : (b : List StressLoss) → coverSum b ≡ 0 → flaggedSum b ≡ 0
 unfolding coverSum
 none-cover b e = none-flagged b (omega arith)
 
-none-at-all : (bs : List (List Loss)) → most bs ≡ 0 → flaggedWith 0 bs ≡ 0
+none-at-all : (bs : List (List StressLoss)) → most bs ≡ 0 → flaggedWith 0 bs ≡ 0
 unfolding highest earliestWith memberLosses
 none-at-all [] e = none-flagged [] refl
 none-at-all (b ∷ bs) e =
     ap flaggedSum (sym (check-eq b (earliestWith 0 bs) (coverSum b) 0 (omega arith) refl)) ∙ none-cover b (omega arith)
 
 -- from nothing, the worst of blocks is the earliest that covers most
-pub worst-of-all : (bs : List (List Loss)) → worstOf nothing bs ≡ record { cover = most bs; weak = flaggedWith (most bs) bs }
+pub worst-of-all : (bs : List (List StressLoss)) → worstOf nothing bs ≡ record { cover = most bs; weak = flaggedWith (most bs) bs }
 worst-of-all bs =
     λ i. record { cover = cover-is i; weak = weak-is i }
   where

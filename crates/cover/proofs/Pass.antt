@@ -15,7 +15,7 @@ use Rattle.stress.specs.Stress.{weakAt, lossAt, beforeAll, oneBlock}
 use Rattle.stress.specs.declared.Before.{Before}
 use Rattle.stress.proofs.Laws.{LossInOrder}
 use Rattle.lists.specs.Highest.{highest, without}
-use Rattle.cover.specs.Cover.{Loss, lossRecord, recordsFrom, recordsOf, blocksFrom, blocksOf, memberLosses, flaggedLoss, flaggedSum, coverOf, weakOf}
+use Rattle.cover.specs.Cover.{StressLoss, lossRecord, recordsFrom, recordsOf, blocksFrom, blocksOf, memberLosses, flaggedLoss, flaggedSum, coverOf, weakOf}
 use Rattle.cover.specs.Parts.{blockOf, worseOf, Slight, Bounded}
 use Rattle.cover.specs.declared.Block.{Block}
 use Rattle.cover.specs.declared.Worst.{Worst}
@@ -27,14 +27,14 @@ abbrev pub sameOf : Before → Before → Bool
 sameOf before next = oneBlock (next .day) (next .scenario) (before .day) (before .scenario)
 
 -- the record before is the latest of the open block
-abbrev Follows : List Loss → Before → Type 0
+abbrev Follows : List StressLoss → Before → Type 0
 Follows [] before = Unit {0}
 Follows (latest ∷ earlier) before = (before .day ≡ latest .day) × (before .scenario ≡ latest .scenario)
 
 -- before record i: the open block's records, what is kept of them and of the worst block so far, and that from here on the worst block of
 -- the sheet is still found
 pub record Pass (sheet : List ℕ) (count i : ℕ) (before : Before) (block : Block) (worst : Worst) : Type 0 where
-  pub records : List Loss
+  pub records : List StressLoss
   pub block-is : block ≡ blockOf records
   pub follows : Follows records before
   pub whole : worstOf worst (blocksFrom records (recordsFrom (count - i) sheet i)) ≡ worstOf nothing (blocksOf (recordsOf sheet))
@@ -72,7 +72,7 @@ pass-begins sheet block e =
     }
 
 -- what is kept of a block that a record joins stays within its limits
-module _ {b : Block} (xs : List Loss) (x : Loss) (is : b ≡ blockOf (x ∷ xs)) where
+module _ {b : Block} (xs : List StressLoss) (x : StressLoss) (is : b ≡ blockOf (x ∷ xs)) where
   joined-top : b .top ≤ max (x .loss) (blockOf xs .top)
   unfolding blockOf memberLosses highest
   joined-top = omega (arith, ap (λ (v : Block). v .top) is)
@@ -112,13 +112,13 @@ unfolding blockOf memberLosses highest without
 worse-than-empty worst = sym (check-nlt _ _ (worst .cover) 0 zero-le refl)
 
 -- a record of the open block, and one that is not of it: the blocks from here on
-module _ (before next : Before) (x : Loss) (day : next .day ≡ x .day) (scenario : next .scenario ≡ x .scenario) (worst : Worst) (rest : List Loss) where
-  on-same : (xs : List Loss) → Follows xs before → sameOf before next ≡ true → blocksFrom xs (x ∷ rest) ≡ blocksFrom (x ∷ xs) rest
+module _ (before next : Before) (x : StressLoss) (day : next .day ≡ x .day) (scenario : next .scenario ≡ x .scenario) (worst : Worst) (rest : List StressLoss) where
+  on-same : (xs : List StressLoss) → Follows xs before → sameOf before next ≡ true → blocksFrom xs (x ∷ rest) ≡ blocksFrom (x ∷ xs) rest
   unfolding blocksFrom
   on-same [] f e = sym (check-true _ _ true refl refl)
   on-same (latest ∷ earlier) f e = sym (check-true _ _ _ (rw (day, scenario, f .0, f .1) at e) refl)
 
-  on-other : (xs : List Loss) → Follows xs before → sameOf before next ≡ false
+  on-other : (xs : List StressLoss) → Follows xs before → sameOf before next ≡ false
       → worstOf worst (blocksFrom xs (x ∷ rest)) ≡ worstOf (worseOf worst (blockOf xs)) (blocksFrom (x ∷ []) rest)
   unfolding blocksFrom worstOf
   on-other [] f e =
@@ -147,10 +147,10 @@ opened-slight false block opened e b =
 
 -- the next record
 module _ (sheet : List ℕ) (count i : ℕ) (before next : Before) (block opened joined : Block) (worst ended : Worst) (loss weak : ℕ) where
-  abbrev x : Loss
+  abbrev x : StressLoss
   x = lossRecord (recordAt sheet i)
 
-  abbrev rest : List Loss
+  abbrev rest : List StressLoss
   rest = recordsFrom (count - (i + 1)) sheet (i + 1)
 
   rest-is : i < count → recordsFrom (count - i) sheet i ≡ x ∷ rest
@@ -159,7 +159,7 @@ module _ (sheet : List ℕ) (count i : ℕ) (before next : Before) (block opened
       let left : count - i ≡ suc (count - (i + 1)) = omega arith in
       ap (λ (n : ℕ). recordsFrom n sheet i) left
 
-  passes : (xs : List Loss) (flags : ℕ) → LossInOrder before (recordAt sheet i) loss weak next → opened ≡ blockOf xs → opened .top ≤ amountLimit
+  passes : (xs : List StressLoss) (flags : ℕ) → LossInOrder before (recordAt sheet i) loss weak next → opened ≡ blockOf xs → opened .top ≤ amountLimit
       → opened .flagged ≤ amountLimit * flags → next .flags ≡ flags + weakAt (recordAt sheet i) → joined ≡ blockOf (x ∷ xs)
       → worstOf ended (blocksFrom (x ∷ xs) rest) ≡ worstOf nothing (blocksOf (recordsOf sheet)) → Bounded ended
       → Pass sheet count (i + 1) next joined ended
@@ -188,7 +188,7 @@ module _ (sheet : List ℕ) (count i : ℕ) (before next : Before) (block opened
   pub pass-on : Pass sheet count i before block worst → i < count → LossInOrder before (recordAt sheet i) loss weak next
       → ended ≡ cond (sameOf before next) worst (worseOf worst block)
       → opened ≡ cond (sameOf before next) block (blockOf [])
-      → ((xs : List Loss) (x : Loss) → opened ≡ blockOf xs → x .loss ≡ loss → x .weak ≡ weak → joined ≡ blockOf (x ∷ xs))
+      → ((xs : List StressLoss) (x : StressLoss) → opened ≡ blockOf xs → x .loss ≡ loss → x .weak ≡ weak → joined ≡ blockOf (x ∷ xs))
       → Pass sheet count (i + 1) next joined ended
   pass-on p more o e f j = go (sameOf before next) refl e f
     where
@@ -214,7 +214,7 @@ module _ (sheet : List ℕ) (count i : ℕ) (before next : Before) (block opened
           passes [] 0 o f (rw f empty-top) (rw f empty-flagged) (rw s at flags)
           (j [] x f (sym (o .loss-is)) (sym (o .weak-is)))
           (rw (e, p .block-is)
-          (sym (ap (λ (rs : List Loss). worstOf worst (blocksFrom (p .records) rs)) (rest-is more)
+          (sym (ap (λ (rs : List StressLoss). worstOf worst (blocksFrom (p .records) rs)) (rest-is more)
           ∙ on-other before next x day scenario worst rest (p .records) (p .follows) s)
           ∙ p .whole))
           (rw e (worse-bounded worst block (p .bounded) (slight p)))

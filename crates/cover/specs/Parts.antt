@@ -1,5 +1,5 @@
--- What the parts of `cover` promise each other. No rule of document 01 is here. One pass over a stress sheet keeps something of the block that is
--- open, and of the worst block before it.
+-- What the parts of `cover` promise each other. No rule of document 01 is here.
+-- One pass over a stress sheet keeps something of the block that is open, and of the worst block before it.
 use Prim.Native.Nat.{ℕ, _+_, _*_, _≤_}
 use mathlib.Core.Path.{_≡_}
 use mathlib.Core.List.{List}
@@ -8,13 +8,13 @@ use Rattle.lists.specs.Checks.{check}
 use Rattle.lists.specs.Highest.{highest, without}
 use Rattle.lists.specs.Limits.{amountLimit, weakLimit}
 use Rattle.stress.specs.Stress.{stressRefusal}
-use Rattle.cover.specs.Cover.{Loss, memberLosses, flaggedSum, coverOf, weakOf}
+use Rattle.cover.specs.Cover.{StressLoss, memberLosses, flaggedSum, coverOf, weakOf}
 use Rattle.cover.specs.declared.Block.{Block}
 use Rattle.cover.specs.declared.Covered.{Covered}
 use Rattle.cover.specs.declared.Worst.{Worst}
 
 -- what is kept of a block
-unfoldable pub blockOf : List Loss → Block
+unfoldable pub blockOf : List StressLoss → Block
 blockOf records =
     record {
       top = highest (memberLosses records);

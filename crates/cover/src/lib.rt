@@ -13,7 +13,7 @@ ghost use mathlib.Core.List.{List, [], _∷_};
 ghost use Prim.Native.Nat.{_+_, _≤_};
 ghost use Rattle.lists.specs.Limits.{amountLimit};
 ghost use Rattle.sheets.specs.Bytes.{nonzero};
-ghost use Rattle.cover.specs.Cover.{Loss};
+ghost use Rattle.cover.specs.Cover.{StressLoss};
 ghost use Rattle.cover.specs.Parts.{blockOf, worseOf, Slight, StressRead};
 
 // The two highest losses of a block, and its flagged losses added.
@@ -57,7 +57,7 @@ fn flagged_loss(weak: u64, loss: u64) -> u64
 // A record joins the block.
 fn joined(block: Block, loss: u64, weak: u64) -> Block
     requires { ⌜ Slight block × (loss ≤ amountLimit) ⌝ }
-    ensures { λ r. ⌜ ((xs : List Loss) (x : Loss) → block ≡ blockOf xs → x .loss ≡ loss → x .weak ≡ weak → r ≡ blockOf (x ∷ xs)) ⌝ }
+    ensures { λ r. ⌜ ((xs : List StressLoss) (x : StressLoss) → block ≡ blockOf xs → x .loss ≡ loss → x .weak ≡ weak → r ≡ blockOf (x ∷ xs)) ⌝ }
 {
     let flagged = block.flagged + flagged_loss(weak, loss);
     if block.top < loss {

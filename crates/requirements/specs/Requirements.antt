@@ -12,14 +12,14 @@ use Rattle.sheets.specs.Bytes.{nonzero}
 use Rattle.sheets.specs.declared.columns.Columns.{Columns}
 
 -- "In a shares sheet they are average volume, average initial margin and highest stress loss."
-abbrev pub volumes : Columns → List ℕ
-volumes columns = columns .first
+abbrev pub averageVolumes : Columns → List ℕ
+averageVolumes columns = columns .first
 
-abbrev pub margins : Columns → List ℕ
-margins columns = columns .second
+abbrev pub averageMargins : Columns → List ℕ
+averageMargins columns = columns .second
 
-abbrev pub stresses : Columns → List ℕ
-stresses columns = columns .third
+abbrev pub stressLosses : Columns → List ℕ
+stressLosses columns = columns .third
 
 -- "Q/4 rounded down goes by initial margin, as much by stress loss, the remainder by volume"
 abbrev pub marginPart : ℕ → ℕ
@@ -34,9 +34,9 @@ volumePart q = q - (marginPart q + stressPart q)
 -- "each by the split; a requirement is the three parts added"
 unfoldable pub partsOf : ℕ → Columns → List ℕ
 partsOf q columns =
-    plus (splitOf (marginPart q) (margins columns))
-    (plus (splitOf (stressPart q) (stresses columns))
-    (splitOf (volumePart q) (volumes columns)))
+    plus (splitOf (marginPart q) (averageMargins columns))
+    (plus (splitOf (stressPart q) (stressLosses columns))
+    (splitOf (volumePart q) (averageVolumes columns)))
 
 -- "at least 10,000 (para 4.4)", "by member number, 0 where absent"
 unfoldable pub requirementsOf : ℕ → Columns → List ℕ
@@ -52,7 +52,7 @@ unshared part column = nonzero part && eqb (total column) 0
 
 unfoldable pub anyUnshared : ℕ → Columns → Bool
 anyUnshared q columns =
-    unshared (marginPart q) (margins columns) || unshared (stressPart q) (stresses columns) || unshared (volumePart q) (volumes columns)
+    unshared (marginPart q) (averageMargins columns) || unshared (stressPart q) (stressLosses columns) || unshared (volumePart q) (averageVolumes columns)
 
 -- 10. "A requirement is above 400,000,000."
 abbrev pub anyExcessive : ℕ → Columns → Bool

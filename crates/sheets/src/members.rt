@@ -2,7 +2,6 @@
 use crate::Entry;
 use crate::bytes::absent;
 use crate::bytes::beyond;
-use crate::bytes::byte;
 use crate::bytes::le32;
 use lists::AMOUNT_LIMIT;
 ghost use mathlib.Core.Path.{_≡_};

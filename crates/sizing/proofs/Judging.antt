@@ -16,7 +16,7 @@ use Rattle.sheets.specs.declared.Refusal.{Refusal}
 use Rattle.cover.specs.Cover.{coverOf, weakOf}
 use Rattle.sheets.specs.Columns.{columnsOf}
 use Rattle.requirements.specs.Requirements.{requirementsOf}
-use Rattle.sizing.specs.Sizing.{refused, sharesRefusal, fundRefusal, fundFigures, sizingRefusal, sizedOf, requirementsAfter}
+use Rattle.sizing.specs.Sizing.{refusedSizing, sharesRefusal, fundRefusal, fundFigures, sizingRefusal, sizedOf, requirementsAfter}
 use Rattle.sizing.specs.Parts.{SizingFunds}
 use Rattle.sizing.specs.declared.Funded.{Funded}
 use Rattle.sizing.specs.declared.Sized.{Sized}
@@ -88,16 +88,16 @@ module _ (stress shares : List ℕ) (prevailing available places : ℕ) where
 -- the answer and the lent numbers ------------------------------------------------------------
 
 -- an answer with a number is a refusal's, and one without has the figures
-module _ (r : Refusal) (figures sized : Sized) (accepts : figures .refusal ≡ noRefusal) (is : sized ≡ check (refuses (r .number)) (refused r) figures) where
+module _ (r : Refusal) (figures sized : Sized) (accepts : figures .refusal ≡ noRefusal) (is : sized ≡ check (refuses (r .number)) (refusedSizing r) figures) where
   by-test : (t : Bool) → refuses (r .number) ≡ t → (0 < sized .refusal .number → t ≡ true) × (sized .refusal .number ≤ 0 → t ≡ false)
   by-test true e = (λ h. refl, λ h. absurd (omega (arith, ltb-true 0 (r .number) e, number)))
     where
       number : sized .refusal .number ≡ r .number
-      number = ap (λ (s : Sized). s .refusal .number) (is ∙ sym (check-true (refused r) figures _ e refl))
+      number = ap (λ (s : Sized). s .refusal .number) (is ∙ sym (check-true (refusedSizing r) figures _ e refl))
   by-test false e = (λ h. absurd (omega (arith, number)), λ h. refl)
     where
       number : sized .refusal .number ≡ 0
-      number = ap (λ (s : Sized). s .refusal .number) (is ∙ sym (check-false (refused r) figures _ e refl)) ∙ ap (λ (x : Refusal). x .number) accepts
+      number = ap (λ (s : Sized). s .refusal .number) (is ∙ sym (check-false (refusedSizing r) figures _ e refl)) ∙ ap (λ (x : Refusal). x .number) accepts
 
   pub refuses-with : 0 < sized .refusal .number → refuses (r .number) ≡ true
   refuses-with = by-test (refuses (r .number)) refl .0

@@ -1,5 +1,5 @@
 -- How an answer comes about: a refusal that holds, or none and the figures.
-use Prim.Native.Nat.{ℕ, _+_, _-_, _≤_, _<_, min, max}
+use Prim.Native.Nat.{ℕ, _+_, _-_, _<_, min, max}
 use mathlib.Core.Path.{_≡_, refl, ap, sym, _∙_, subst₂}
 use native.Mathlib.Omega.{arith}
 use Rattle.lists.proofs.Checks.{check-lt, check-nlt}
@@ -7,18 +7,18 @@ use Rattle.sheets.specs.Sheet.{refusal, noRefusal}
 use Rattle.sheets.specs.declared.Refusal.{Refusal}
 use Rattle.requirements.specs.Requirements.{requirementsOf, highestOf, sharingRefusal}
 use Rattle.sizing.specs.Fund.{percentUp, targetOf, minimumOf}
-use Rattle.sizing.specs.Sizing.{refused, highestFor, ownFor, quantumFor, fundRefusal, fundFigures}
+use Rattle.sizing.specs.Sizing.{refusedSizing, highestFor, ownFor, quantumFor, fundRefusal, fundFigures}
 use Rattle.sizing.specs.Parts.{Funds}
 use Rattle.sheets.specs.declared.columns.Columns.{Columns}
 use Rattle.sizing.specs.declared.Funded.{Funded}
 use Rattle.sizing.specs.declared.Sized.{Sized}
 
 -- a refusal of number n, which is not 0
-pub funds-refused : {columns : Columns} {figures : Sized} {holds : Refusal} {funded : Funded} (r : Refusal) → 0 < r .number → holds ≡ r → funded .sized ≡ refused r
+pub funds-refused : {columns : Columns} {figures : Sized} {holds : Refusal} {funded : Funded} (r : Refusal) → 0 < r .number → holds ≡ r → funded .sized ≡ refusedSizing r
     → Funds columns figures holds funded
 funds-refused {figures = figures} r h e s =
     record {
-      sized-is = rw e (check-lt (refused r) figures 0 (r .number) h s);
+      sized-is = rw e (check-lt (refusedSizing r) figures 0 (r .number) h s);
       requirements-are = λ z. absurd (omega (arith, ap (λ (v : Sized). v .refusal .number) s));
     }
 
@@ -26,7 +26,7 @@ pub funds-accepted : {columns : Columns} {figures : Sized} {holds : Refusal} {fu
     → funded .requirements ≡ requirementsOf (figures .quantum) columns → Funds columns figures holds funded
 funds-accepted {figures = figures} e s q =
     record {
-      sized-is = rw e (check-nlt (refused noRefusal) figures 0 0 (omega arith) s);
+      sized-is = rw e (check-nlt (refusedSizing noRefusal) figures 0 0 (omega arith) s);
       requirements-are = λ z. q;
     }
 

@@ -12,7 +12,7 @@ use Rattle.cover.specs.Cover.{coverOf, weakOf}
 use Rattle.requirements.specs.Requirements.{requirementsOf, sharingRefusal}
 use Rattle.requirements.specs.Parts.{Moderate, Totalled}
 use Rattle.requirements.specs.declared.Totals.{Totals}
-use Rattle.sizing.specs.Sizing.{refused, fundFigures, sizingRefusal}
+use Rattle.sizing.specs.Sizing.{refusedSizing, fundFigures, sizingRefusal}
 use Rattle.sizing.specs.declared.Funded.{Funded}
 use Rattle.sizing.specs.declared.Sized.{Sized}
 
@@ -22,7 +22,7 @@ exposureLimit = 2_800_000_000
 
 -- the figures and the requirements of their quantum, or a refusal
 pub record Funds (columns : Columns) (figures : Sized) (refusal : Refusal) (funded : Funded) : Type 0 where
-  pub sized-is : funded .sized ≡ check (refuses (refusal .number)) (refused refusal) figures
+  pub sized-is : funded .sized ≡ check (refuses (refusal .number)) (refusedSizing refusal) figures
   pub requirements-are : funded .sized .refusal .number ≡ 0 → funded .requirements ≡ requirementsOf (figures .quantum) columns
 
 -- the same for a stress sheet, a shares sheet, P, V and so many places lent

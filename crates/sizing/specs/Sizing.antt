@@ -18,8 +18,8 @@ use Rattle.sizing.specs.Fund.{targetOf, minimumOf, ownOf, quantumOf}
 use Rattle.sizing.specs.declared.Sized.{Sized}
 
 -- "every other number of its answer is 0"
-abbrev pub refused : Refusal → Sized
-refused r =
+abbrev pub refusedSizing : Refusal → Sized
+refusedSizing r =
     record {
       refusal = r;
       cover = 0;
@@ -87,7 +87,7 @@ module _ (stress shares : List ℕ) (prevailing available places : ℕ) where
 
   unfoldable pub sizedOf : Sized
   sizedOf =
-      check (refuses (sizingRefusal .number)) (refused sizingRefusal)
+      check (refuses (sizingRefusal .number)) (refusedSizing sizingRefusal)
       (fundFigures (coverOf stress) (weakOf stress) (columnsOf shares) prevailing available)
 
 -- "The slip's first 64 numbers receive the requirements for D by member number, 0 where absent; further numbers stay."; at a refusal all

@@ -20,7 +20,7 @@ ghost use Rattle.sheets.specs.Sheet.{refusal};
 ghost use Rattle.sheets.specs.declared.Refusal.{Refusal};
 ghost use Rattle.requirements.specs.Requirements.{sharingRefusal};
 ghost use Rattle.sizing.specs.Parts.{Funds, FundAsked, QuantumAsked, SizingFunds};
-ghost use Rattle.sizing.specs.Sizing.{refused, fundFigures, fundRefusal, sizedOf, requirementsAfter};
+ghost use Rattle.sizing.specs.Sizing.{refusedSizing, fundFigures, fundRefusal, sizedOf, requirementsAfter};
 ghost use Rattle.sizing.specs.Review.{reviewDue};
 
 // What sizing answers: cover C, weak losses W, target A, minimum B, highest requirement b1, own contribution, quantum D. At a refusal every
@@ -53,7 +53,7 @@ pub fn review_due(cover: u64, target: u64) -> bool
 
 // A refusal: no figures, and no requirements.
 fn refuse(number: u8, position: usize) -> Funded
-    ensures { λ r. ⌜ r .sized ≡ refused (refusal number position) ⌝ }
+    ensures { λ r. ⌜ r .sized ≡ refusedSizing (refusal number position) ⌝ }
 {
     let refusal = Refusal { number, position };
     let sized = Sized {

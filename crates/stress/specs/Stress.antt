@@ -54,11 +54,12 @@ passed before s =
       flags = flagsBefore before s + weakAt s;
     }
 
--- 4. "A member, day, scenario, flag or zero byte is outside its values."
+-- whether a day, a scenario, a member or a flag is outside its values
 abbrev pub stressBeyond : List ℕ → Bool
 stressBeyond s =
     beyond 1 dayLimit (dayAt s) || beyond 1 scenarioLimit (scenarioAt s) || beyond 1 memberLimit (stressedAt s) || beyond 0 1 (weakAt s)
 
+-- 4. "A member, day, scenario, flag or zero byte is outside its values."
 unfoldable pub stressOutside : List ℕ → Bool
 stressOutside s =
     stressBeyond s

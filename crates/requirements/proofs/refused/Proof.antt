@@ -1,8 +1,6 @@
 -- `requirements::refused` meets its contract.
-use Rattle.lists.proofs.Checks.{check-true, check-false, checks}
-use borrow.Author.Needs.{needs}
 use mathlib.Core.Path.{refl}
-use Rattle.lists.proofs.Checks.{check-lt, check-nlt}
+use Rattle.lists.proofs.Checks.{check-true, check-false, check-lt, check-nlt}
 use Rattle.requirements.proofs.refused.Statement.{statement}
 use Rattle.requirements.proofs.refused.Tie as tie
 

@@ -1,8 +1,8 @@
 -- `requirements::share` meets its contract.
-use mathlib.Core.Path.{_≡_, ap, _∙_}
+use mathlib.Core.Path.{ap, _∙_}
 use borrow.Author.Needs.{needs}
 use Rattle.lists.specs.Highest.{highest}
-use Rattle.requirements.specs.Requirements.{highestOf, sharingRefusal}
+use Rattle.requirements.specs.Requirements.{sharingRefusal}
 use Rattle.requirements.proofs.share.Statement.{statement}
 use Rattle.requirements.proofs.share.Tie as tie
 

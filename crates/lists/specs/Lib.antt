@@ -2,4 +2,5 @@
 pub mod Limits
 pub mod Sums
 pub mod Checks
+pub mod Highest
 pub mod Texts

@@ -1,5 +1,6 @@
 // The limits of document 01 as the code names them. The contracts name them by specs/Limits, so a number that differs is refused.
 // Money is whole thousands of rupees.
+pub mod numbers;
 
 // "Members are numbered 1 to 64."
 pub const MEMBER_LIMIT: usize = 64;

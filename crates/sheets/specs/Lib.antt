@@ -1,7 +1,6 @@
 -- The definitions that the contracts of `sheets` cite.
 pub mod Bytes
 pub mod Members
-pub mod Stress
 pub mod Sheet
 pub mod Columns
 pub mod Parts

@@ -7,8 +7,6 @@ use lib.ListN.{length}
 use Rattle.lists.specs.Checks.{check, refuses}
 use Rattle.sheets.specs.Bytes.{recordAt, nonzero}
 use Rattle.sheets.specs.Members.{memberAt, entryOf, numberOf}
-use Rattle.sheets.specs.Stress.{beforeAll, passed, stressOf, stressNumber}
-use Rattle.sheets.specs.declared.Before.{Before}
 use Rattle.sheets.specs.declared.Refusal.{Refusal}
 
 -- "A refusal carries its number and, for 4 to 8, the record's place counted from 1 (0 for the others)"; 0 and 0 say that nothing is refused
@@ -39,14 +37,3 @@ memberRefusalFrom floor (suc n) sheet i last =
 
 unfoldable pub memberRefusal : ℕ → List ℕ → Refusal
 memberRefusal floor sheet = memberRefusalFrom floor (recordCount sheet) sheet 0 0
-
--- 4 to 8 of a stress sheet, likewise
-unfoldable pub stressRefusalFrom : ℕ → List ℕ → ℕ → Before → Refusal
-stressRefusalFrom zero sheet i before = noRefusal
-stressRefusalFrom (suc n) sheet i before =
-    check (refuses (stressNumber (stressOf before (recordAt sheet i))))
-    (refusal (stressNumber (stressOf before (recordAt sheet i))) (i + 1))
-    (stressRefusalFrom n sheet (i + 1) (passed before (recordAt sheet i)))
-
-unfoldable pub stressRefusal : List ℕ → Refusal
-stressRefusal sheet = stressRefusalFrom (recordCount sheet) sheet 0 beforeAll

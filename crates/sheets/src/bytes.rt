@@ -4,7 +4,6 @@ ghost use mathlib.Core.Path.{_≡_};
 ghost use Prim.Native.Nat.{_+_, _≤_, _<_};
 ghost use lib.ListN.{length};
 ghost use Rattle.sheets.specs.Bytes.{byte, le16, le32, absentAmount, beyond, nonzero};
-ghost use Rattle.sheets.specs.Parts.{le64};
 
 // "Hexadecimal FFFFFFFF means missing."
 const MISSING_AMOUNT: u64 = 0xffff_ffff;
@@ -34,13 +33,6 @@ pub fn le32(s: &[u8], at: usize) -> u64
     ensures { λ r. ⌜ (r ≡ le32 (now (s .entry)) at) × (r ≤ 4_294_967_295) ⌝ }
 {
     byte(s, at) + byte(s, at + 1) * 256 + byte(s, at + 2) * 65_536 + byte(s, at + 3) * 16_777_216
-}
-
-pub fn le64(s: &[u8], at: usize) -> u64
-    requires { ⌜ at + 8 ≤ length (now s) ⌝ }
-    ensures { λ r. ⌜ r ≡ le64 (now (s .entry)) at ⌝ }
-{
-    le32(s, at) + le32(s, at + 4) * 4_294_967_296
 }
 
 pub fn absent(amount: u64) -> bool

@@ -1,22 +1,21 @@
 // A record of a register or a shares sheet: one function for each of document 01's refusals 4 to 6, and the record by them.
-use crate::AMOUNT_LIMIT;
 use crate::Entry;
-use crate::MEMBER_LIMIT;
 use crate::bytes::absent;
 use crate::bytes::beyond;
-use crate::bytes::byte;
 use crate::bytes::le32;
-use crate::bytes::nonzero;
+use lists::AMOUNT_LIMIT;
 ghost use mathlib.Core.Path.{_≡_};
 ghost use Prim.Native.Nat.{_≤_};
 ghost use lib.ListN.{length};
 ghost use Rattle.sheets.specs.Members.{outside, missing, excessive, entryOf, numberOf};
 
+const MEMBERS: u64 = lists::MEMBER_LIMIT as u64;
+
 fn outside(s: &[u8]) -> bool
     requires { ⌜ 16 ≤ length (now s) ⌝ }
     ensures { λ r. ⌜ r ≡ outside (now (s .entry)) ⌝ }
 {
-    beyond(1, MEMBER_LIMIT, le32(s, 0))
+    beyond(1, MEMBERS, le32(s, 0))
 }
 
 fn missing(s: &[u8]) -> bool

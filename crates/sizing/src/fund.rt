@@ -1,27 +1,11 @@
 // The figures of the fund, from C + W, P, V and b1.
+use lists::numbers::greater;
+use lists::numbers::lesser;
 ghost use mathlib.Core.Path.{_≡_};
 ghost use Prim.Native.Nat.{_+_, _-_, _≤_, min, max};
 ghost use Rattle.lists.specs.Limits.{sumLimit, allocationLimit};
 ghost use Rattle.sizing.specs.Fund.{percentUp, targetOf, minimumOf};
-ghost use Rattle.sizing.specs.Bounds.{exposureLimit};
-
-fn lesser(a: u64, b: u64) -> u64
-    ensures { λ r. ⌜ r ≡ min a b ⌝ }
-{
-    if a < b {
-        return a;
-    }
-    b
-}
-
-pub fn greater(a: u64, b: u64) -> u64
-    ensures { λ r. ⌜ r ≡ max a b ⌝ }
-{
-    if a < b {
-        return b;
-    }
-    a
-}
+ghost use Rattle.sizing.specs.Parts.{exposureLimit};
 
 // A percentage of an amount, rounded up.
 fn percent_up(percent: u64, x: u64) -> u64

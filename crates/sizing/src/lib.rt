@@ -1,43 +1,27 @@
 // Month-end fund sizing: document 01, "Stress sheet and sizing".
-mod cover;
 mod fund;
-mod requirements;
-mod shares;
 
+use lists::MEMBER_LIMIT;
+use lists::STRESS_LIMIT;
+use lists::SUM_LIMIT;
 use requirements::Totals;
 use requirements::add_up;
-use requirements::any_unshared;
-use requirements::highest;
-use requirements::requirements;
+use requirements::share;
 use sheets::Refusal;
+use sheets::columns::Columns;
 use sheets::missized;
 ghost use mathlib.Core.Path.{_≡_};
 ghost use mathlib.Core.List.{_++_};
 ghost use Prim.Native.Nat.{_≤_};
 ghost use lib.ListN.{length, drop};
+ghost use Rattle.lists.specs.Checks.{check, refuses};
 ghost use Rattle.lists.specs.Limits.{memberLimit};
-ghost use Rattle.sheets.specs.Sheet.{refusal, accepted};
-ghost use Rattle.sizing.specs.Funds.{Funds, FundAsked, QuantumAsked, SizingFunds};
-ghost use Rattle.sizing.specs.Sizing.{refused, tried, fundFigures, fundRefusal, sizedOf, requirementsAfter};
+ghost use Rattle.sheets.specs.Sheet.{refusal};
+ghost use Rattle.sheets.specs.declared.Refusal.{Refusal};
+ghost use Rattle.requirements.specs.Requirements.{sharingRefusal};
+ghost use Rattle.sizing.specs.Parts.{Funds, FundAsked, QuantumAsked, SizingFunds};
+ghost use Rattle.sizing.specs.Sizing.{refusedSizing, fundFigures, fundRefusal, sizedOf, requirementsAfter};
 ghost use Rattle.sizing.specs.Review.{reviewDue};
-
-const MEMBER_LIMIT: usize = 64;
-
-const STRESS_LIMIT: usize = 4_096;
-
-const AMOUNT_LIMIT: u64 = 400_000_000;
-
-const SUM_LIMIT: u64 = 25_600_000_000;
-
-const CONTRIBUTION_FLOOR: u64 = 10_000;
-
-// The columns of a shares sheet by member number, member 1 first, 0 where a member is absent; and which members the sheet has.
-pub struct Columns {
-    pub volume: [u64; 64],
-    pub margin: [u64; 64],
-    pub stress: [u64; 64],
-    pub present: [bool; 64],
-}
 
 // What sizing answers: cover C, weak losses W, target A, minimum B, highest requirement b1, own contribution, quantum D. At a refusal every
 // number but the refusal's own is 0.
@@ -69,7 +53,7 @@ pub fn review_due(cover: u64, target: u64) -> bool
 
 // A refusal: no figures, and no requirements.
 fn refuse(number: u8, position: usize) -> Funded
-    ensures { λ r. ⌜ r .sized ≡ refused (refusal number position) ⌝ }
+    ensures { λ r. ⌜ r .sized ≡ refusedSizing (refusal number position) ⌝ }
 {
     let refusal = Refusal { number, position };
     let sized = Sized {
@@ -91,7 +75,7 @@ fn refuse(number: u8, position: usize) -> Funded
 // The requirements of the quantum, with 9 and 10 for it. Where it is the minimum, `first` are they, and were tried.
 fn for_quantum(figures: Sized, first: [u64; 64], columns: Columns, totals: Totals) -> Funded
     requires { ⌜ QuantumAsked figures first columns totals ⌝ }
-    ensures { λ r. ⌜ Funds columns figures (tried (figures .quantum) columns accepted) r ⌝ }
+    ensures { λ r. ⌜ Funds columns figures (refusal (sharingRefusal (figures .quantum) columns) 0) r ⌝ }
 {
     if figures.quantum == figures.minimum {
         return Funded {
@@ -99,16 +83,14 @@ fn for_quantum(figures: Sized, first: [u64; 64], columns: Columns, totals: Total
             requirements: first,
         };
     }
-    if any_unshared(figures.quantum, totals) {
-        return refuse(9, 0);
+    let shared = share(figures.quantum, columns, totals);
+    if 0 < shared.number {
+        return refuse(shared.number, 0);
     }
-    let shared = requirements(figures.quantum, columns, totals);
-    if AMOUNT_LIMIT < highest(shared) {
-        return refuse(10, 0);
-    }
+    let requirements = shared.requirements;
     Funded {
         sized: figures,
-        requirements: shared,
+        requirements,
     }
 }
 
@@ -120,14 +102,11 @@ fn fund_from(cover: u64, weak: u64, columns: Columns, prevailing: u64, available
     let totals = add_up(columns);
     let exposure = cover + weak;
     let minimum = fund::minimum(exposure, prevailing);
-    if any_unshared(minimum, totals) {
-        return refuse(9, 0);
+    let shared = share(minimum, columns, totals);
+    if 0 < shared.number {
+        return refuse(shared.number, 0);
     }
-    let first = requirements(minimum, columns, totals);
-    let highest = highest(first);
-    if AMOUNT_LIMIT < highest {
-        return refuse(10, 0);
-    }
+    let highest = shared.highest;
     let target = fund::target(exposure);
     let own = fund::own(minimum, available, highest);
     let quantum = fund::quantum(minimum, target, own);
@@ -145,7 +124,18 @@ fn fund_from(cover: u64, weak: u64, columns: Columns, prevailing: u64, available
         own,
         quantum,
     };
+    let first = shared.requirements;
     for_quantum(figures, first, columns, totals)
+}
+
+// "stress sheet before shares"
+fn first_refusal(stress: Refusal, shares: Refusal) -> Refusal
+    ensures { λ r. ⌜ r ≡ check (refuses (stress .number)) stress shares ⌝ }
+{
+    if 0 < stress.number {
+        return stress;
+    }
+    shares
 }
 
 // 1 to 8 in the paper's order, then the figures. Of the lent numbers it reads only how many they are.
@@ -162,14 +152,12 @@ fn judge(stress: &[u8], shares: &[u8], prevailing: u64, available: u64, places: 
         return refuse(3, 0);
     }
     let covered = cover::read(stress);
-    let found = covered.refusal;
+    let reading = sheets::columns::read(0, shares);
+    let of_stress = covered.refusal;
+    let of_shares = reading.refusal;
+    let found = first_refusal(of_stress, of_shares);
     if 0 < found.number {
         return refuse(found.number, found.position);
-    }
-    let reading = shares::read(shares);
-    let met = reading.refusal;
-    if 0 < met.number {
-        return refuse(met.number, met.position);
     }
     let columns = reading.columns;
     fund_from(covered.cover, covered.weak, columns, prevailing, available)

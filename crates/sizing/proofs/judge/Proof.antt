@@ -1,10 +1,14 @@
 -- `sizing::judge` meets its contract.
-use mathlib.Core.Path.{_≡_, sym, _∙_}
+use mathlib.Core.Path.{_≡_, ap, _∙_}
 use mathlib.Core.Bool.{false, _||_}
 use native.Mathlib.Omega.{arith}
+use Rattle.lists.specs.Checks.{check, refuses}
 use Rattle.lists.specs.Limits.{memberLimit, stressLimit}
 use Rattle.sheets.specs.Sheet.{missized}
-use Rattle.sizing.proofs.Judging.{refused-1, refused-2, refused-3, refused-stress, refused-shares, refused-fund, prevailing-within}
+use Rattle.sheets.specs.declared.Refusal.{Refusal}
+use Rattle.stress.specs.Stress.{stressRefusal}
+use Rattle.sizing.specs.Sizing.{sharesRefusal}
+use Rattle.sizing.proofs.Judging.{refused-1, refused-2, refused-3, refused-sheet, none-refused, prevailing-within}
 use Rattle.sizing.proofs.Outcome.{funds-refused}
 use borrow.Author.Needs.{needs}
 use Rattle.sizing.proofs.judge.Statement.{statement}
@@ -15,6 +19,14 @@ sheets-fit : (c : tie.Else1)
     → let start = c .before .before .before .before .before .args in
     (missized stressLimit (start .stress .now) || missized memberLimit (start .shares .now)) ≡ false
 sheets-fit c = rw (c .before .missized2 .ensures, c .before .before .missized .ensures) at (c .if1 .left)
+
+-- the first refusal of the two sheets
+found : (c : tie.After-first-refusal)
+    → let start = c .before .before .before .before .before .before .before .before .before .before .before .before .args in
+    c .first-refusal .result ≡ check (refuses (stressRefusal (start .stress .now) .number)) (stressRefusal (start .stress .now)) (sharesRefusal (start .shares .now))
+found c =
+    let s = c .before .before .before in
+    rw (s .before .read .ensures .refused, s .read2 .ensures .refused) at (c .first-refusal .ensures)
 
 missized-requires : tie.Need-missized-requires
 missized-requires c κs = search needs
@@ -51,62 +63,51 @@ returns-3 c =
 read-requires : tie.Need-read-requires
 read-requires c κs = search needs
 
+read-requires-2 : tie.Need-read-requires-2
+read-requires-2 c κs = search needs
+
+first-refusal-requires : tie.Need-first-refusal-requires
+first-refusal-requires c κs = search needs
+
 refuse-requires-4 : tie.Need-refuse-requires-4
 refuse-requires-4 c κs = search needs
 
 returns-4 : tie.Need-returns-4
 returns-4 c =
-    let d = c .before .before .before .before in
-    let q = d .read .ensures .refused in
-    let p = d .before in
-    let e = sheets-fit (p .before .before) in
-    funds-refused _ (c .before .if4 .taken)
-    (refused-stress _ _ _ _ _ e (p .before .if2 .left) (p .if3 .left) (rw q at (c .before .if4 .taken)) ∙ sym q)
-    (c .refuse4 .ensures)
-
-read-requires-2 : tie.Need-read-requires-2
-read-requires-2 c κs = search needs
-
-refuse-requires-5 : tie.Need-refuse-requires-5
-refuse-requires-5 c κs = search needs
-
-returns-5 : tie.Need-returns-5
-returns-5 c =
-    let s = c .before .before .before .before in
-    let q = s .read2 .ensures .refused in
-    let d = s .before .before .before .before in
-    let p = d .before in
-    let e = sheets-fit (p .before .before) in
-    funds-refused _ (c .before .if5 .taken)
-    (refused-shares _ _ _ _ _ e (p .before .if2 .left) (p .if3 .left) (rw (d .read .ensures .refused) at (s .before .if4 .left)) (rw q at (c .before .if5 .taken)) ∙ sym q)
-    (c .refuse5 .ensures)
+    let f = c .before .before .before in
+    let p = f .before .before .before .before .before in
+    let h = c .before .if4 .taken in
+    funds-refused _ h (refused-sheet _ _ _ _ _ (sheets-fit (p .before .before)) (p .before .if2 .left) (p .if3 .left) _ (found f) h) (c .refuse4 .ensures)
 
 fund-from-requires : tie.Need-fund-from-requires
 fund-from-requires c κs =
-    let s = c .before .before .before .before in
-    let d = s .before .before .before .before in
-    let p = d .before in
+    let s = c .before .before .before .before .before .before in
+    let p = s .before .before in
     let a = p .before .before .before .before .before .before .before .args in
     record {
-      cover-most = d .read .ensures .cover-most;
-      weak-most = d .read .ensures .weak-most;
+      cover-most = s .before .read .ensures .cover-most;
+      weak-most = s .before .read .ensures .weak-most;
       prevailing-most = prevailing-within (a .stress .now) (a .shares .now) (a .prevailing) (a .available) (a .places) (sheets-fit (p .before .before)) (p .before .if2 .left) (p .if3 .left);
-      moderate = s .read2 .ensures .moderate;
+      moderate =
+          record {
+            volumes-fit = s .read2 .ensures .first-fits;
+            margins-fit = s .read2 .ensures .second-fits;
+            stresses-fit = s .read2 .ensures .third-fits;
+          };
     }
 
-returns-6 : tie.Need-returns-6
-returns-6 c =
-    let s = c .before .before .before .before .before in
-    let d = s .before .before .before .before in
-    let p = d .before in
-    let e = sheets-fit (p .before .before) in
+returns-5 : tie.Need-returns-5
+returns-5 c =
+    let f = c .before .before .before .before in
+    let s = f .before .before .before in
+    let p = s .before .before in
     let a = p .before .before .before .before .before .before .before .args in
-    let k = s .before .if4 .left in
-    let l = c .before .before .if5 .left in
-    let x = d .read .ensures in
+    let x = s .before .read .ensures in
     let y = s .read2 .ensures in
-    rw (refused-fund (a .stress .now) (a .shares .now) (a .prevailing) (a .available) (a .places) e (p .before .if2 .left) (p .if3 .left) (rw (x .refused) at k) (rw (y .refused) at l))
-    (rw (x .cover-is (omega arith), x .weak-is (omega arith), y .columns-are (omega arith)) at (c .fund-from .ensures))
+    let n = none-refused (a .stress .now) (a .shares .now) (a .prevailing) (a .available) (a .places) (sheets-fit (p .before .before)) (p .before .if2 .left) (p .if3 .left) _ (found f) (c .before .before .if4 .left) in
+    let r : s .before .read .result .refusal .number ≡ 0 = ap (λ (v : Refusal). v .number) (x .refused) ∙ n .0 in
+    let q : s .read2 .result .refusal .number ≡ 0 = ap (λ (v : Refusal). v .number) (y .refused) ∙ n .1 in
+    rw (n .2) (rw (x .cover-is r, x .weak-is r, y .columns-are q) at (c .fund-from .ensures))
 
 pub judge-spec : {M : Type 1} → statement M
 judge-spec =
@@ -121,10 +122,9 @@ judge-spec =
     refuse-requires-3
     returns-3
     read-requires
+    read-requires-2
+    first-refusal-requires
     refuse-requires-4
     returns-4
-    read-requires-2
-    refuse-requires-5
-    returns-5
     fund-from-requires
-    returns-6)
+    returns-5)

@@ -1,0 +1,2 @@
+-- The laws that the proofs of `requirements` cite.
+pub mod Sharing

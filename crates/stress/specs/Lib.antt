@@ -1,0 +1,3 @@
+-- The definitions that the contracts of `stress` cite.
+pub mod Stress
+pub mod Parts

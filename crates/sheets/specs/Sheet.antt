@@ -16,10 +16,6 @@ refusal number position = record { number = number; position = position }
 abbrev pub noRefusal : Refusal
 noRefusal = refusal 0 0
 
--- the same by the name that callers still use
-abbrev pub accepted : Refusal
-accepted = noRefusal
-
 -- 1. "A sheet is empty, overlong or not whole records."
 unfoldable pub missized : ℕ → List ℕ → Bool
 missized most sheet = eqb (length sheet) 0 || ltb (most * 16) (length sheet) || nonzero (length sheet % 16)

@@ -1,11 +1,11 @@
 -- The laws of a single step, for each call on a register that was given back.
 use Prim.Native.Nat.{ℕ, _+_, _≤_, _<_}
 use mathlib.Core.Path.{_≡_, refl, ap, sym, _∙_}
-use mathlib.Core.Bool.{Bool, true, false, cond, false≢true}
+use mathlib.Core.Bool.{Bool, true, false, cond, not, false≢true}
 use mathlib.Core.List.{List}
 use native.Mathlib.Omega.{arith}
-use borrow.Author.Tests.{ne-eqb, ltb-true, ltb-false}
-use lib.Dec.{eqb}
+use borrow.Author.Tests.{lt-ltb, ltb-true, ltb-false}
+use Rattle.lists.specs.Checks.{refuses}
 use Rattle.lists.proofs.Checks.{check-by, check-past, no-refusal}
 use Rattle.figures.specs.Figures.{figure}
 use Rattle.waterfall.specs.Register.{GivenBack}
@@ -40,7 +40,7 @@ module _ (r : Register) (g : GivenBack r) (call : DrillCall) (ranks slip : List 
   -- a refused call counts for nothing
   pub refused-laws : (n : ℕ) → 0 < n → Lawful (record { reply = Refused n; register = r })
   refused-laws n h =
-      let no : eqb n 0 ≡ false = ne-eqb n 0 (λ e. omega arith) in
+      let no : not (refuses n) ≡ false = ap not (lt-ltb 0 n h) in
       record {
         given = g;
         cap-stays = refl;

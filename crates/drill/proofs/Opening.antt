@@ -4,11 +4,11 @@ use mathlib.Core.Path.{_≡_, refl, ap, sym, _∙_}
 use mathlib.Core.Bool.{Bool, true, false, cond, true≢false}
 use mathlib.Core.List.{List, map}
 use native.Mathlib.Omega.{arith}
-use borrow.Author.Tests.{eqb-true, eqb-false, ltb-true, le-ltb, lt-ltb}
+use borrow.Author.Tests.{ltb-true, le-ltb, lt-ltb, not-true, not-false}
 use lib.Dec.{eqb, ltb}
 use lib.ListN.{length, length-set}
 use Rattle.lists.specs.Limits.{memberLimit, contributionFloor}
-use Rattle.lists.proofs.Checks.{check-true, check-false}
+use Rattle.lists.proofs.Checks.{check-true, check-false, no-refusal}
 use Rattle.lists.proofs.Places.{map-set}
 use Rattle.sheets.specs.Bytes.{recordAt}
 use Rattle.sheets.specs.Columns.{noColumns, enteredRecord, columnsFrom, columnsOf}
@@ -153,7 +153,7 @@ opens sheet g = go (openingAccepted sheet g) refl
 
     go : (b : Bool) → openingAccepted sheet g ≡ b → Opens sheet g
     go true e =
-        let ok : openedOf sheet g .refusal .number ≡ 0 = eqb-true _ _ e in
+        let ok : openedOf sheet g .refusal .number ≡ 0 = no-refusal _ (not-true _ e) in
         let rest = rest-opened sheet g ok in
         record {
           margin = λ m. sum _ _ true e (margin-opened sheet g ok m);
@@ -166,7 +166,7 @@ opens sheet g = go (openingAccepted sheet g) refl
           status = λ m a n. live-opened sheet g ok m n;
         }
     go false e =
-        let empty = is-empty sheet g (eqb-false _ _ e) in
+        let empty = is-empty sheet g (λ z. omega (arith, ltb-true 0 (openedOf sheet g .refusal .number) (not-false _ e))) in
         record {
           margin = λ m. sum _ (inSheet firstAt sheet m) false e (ap (λ (r : Register). figure (r .margin) m) empty ∙ figure-none m);
           contribution = λ m. sum _ (inSheet secondAt sheet m) false e (ap (λ (r : Register). figure (r .contribution) m) empty ∙ figure-none m);

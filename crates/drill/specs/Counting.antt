@@ -5,6 +5,7 @@ use mathlib.Core.Bool.{Bool, true, false, cond, not, _&&_, _||_}
 use mathlib.Core.List.{List, [], _∷_}
 use lib.Dec.{eqb, ltb}
 use lib.ListN.{take, drop}
+use Rattle.lists.specs.Checks.{refuses}
 use Rattle.lists.specs.Limits.{memberLimit}
 use Rattle.sheets.specs.Bytes.{recordAt}
 use Rattle.sheets.specs.Members.{memberAt, firstAt, secondAt, thirdAt}
@@ -21,7 +22,7 @@ use Rattle.drill.specs.declared.DrillCall.the-variants.{Default, Payment
 
 -- "After a refused opening nobody is live and every opening sum is 0."
 abbrev pub openingAccepted : List ℕ → ℕ → Bool
-openingAccepted sheet g = eqb (openedOf sheet g .refusal .number) 0
+openingAccepted sheet g = not (refuses (openedOf sheet g .refusal .number))
 
 -- of n records from record i on, the figures of those that name the member, added (members rise, so there is one at most)
 unfoldable pub figuresFrom : (List ℕ → ℕ) → ℕ → ℕ → List ℕ → ℕ → ℕ
@@ -61,7 +62,7 @@ module _ (sheet : List ℕ) (g : ℕ) where
 
 -- "A refused drill call counts for nothing."
 abbrev pub accepted : Event → Bool
-accepted e = eqb (replyNumber (e .reply)) 0
+accepted e = not (refuses (replyNumber (e .reply)))
 
 abbrev pub ifAccepted : Event → ℕ → ℕ
 ifAccepted e n = cond (accepted e) n 0

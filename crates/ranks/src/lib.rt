@@ -14,6 +14,9 @@ ghost use Rattle.split.specs.Split.{splitOf, exceeds};
 ghost use Rattle.ranks.specs.Ranks.{atRank, chargesOf};
 ghost use Rattle.ranks.specs.Parts.{Weighed, Totals, Next, Marginal, Shared, aboveRank};
 
+// A place for each rank, and place 0 for what has none.
+const RANKS: usize = RANK_LIMIT as usize + 1;
+
 // The charges, place by place, their total, and whether one comes out above its weight.
 pub struct Charged {
     pub charges: [u64; 64],
@@ -30,11 +33,11 @@ struct Margin {
 }
 
 // The weights added up by rank. What has no rank, 0, adds to place 0, which nobody reads.
-fn rank_totals(weights: &[u64; 64], ranks: &[u8]) -> [u64; 65]
+fn rank_totals(weights: &[u64; 64], ranks: &[u8]) -> [u64; RANKS]
     requires { ⌜ Weighed (now weights) (now ranks) ⌝ }
     ensures { λ r. ⌜ Totals r (now (weights .entry)) (now (ranks .entry)) ⌝ }
 {
-    let mut totals = [0u64; 65];
+    let mut totals = [0u64; RANKS];
     for i in 0..64 {
         let rank = ranks[i] as usize;
         totals[rank] += weights[i];
@@ -43,7 +46,7 @@ fn rank_totals(weights: &[u64; 64], ranks: &[u8]) -> [u64; 65]
 }
 
 // The highest rank, `from` at most, whose total is above 0; 0 where there is none.
-fn next_rank(totals: &[u64; 65], from: u8) -> u8
+fn next_rank(totals: &[u64; RANKS], from: u8) -> u8
     requires { ⌜ from ≤ rankLimit ⌝ }
     ensures { λ r. ⌜ Next (now (totals .entry)) from r ⌝ }
 {

@@ -1,6 +1,6 @@
 -- `ranks::rank_totals` meets its contract. The loop's invariant: each rank's total so far, with the weights of that rank that are left, is
 -- its total.
-use Prim.Native.Nat.{_-_, _≤_, zero-le}
+use Prim.Native.Nat.{_+_, _-_, _≤_, zero-le}
 use mathlib.Core.Path.{_≡_, refl}
 use native.Mathlib.Omega.{arith}
 use lib.ListN.{length, getD, length-set}
@@ -11,7 +11,7 @@ use Rattle.ranks.proofs.rank_totals.Statement.{statement}
 use Rattle.ranks.proofs.rank_totals.Tie as tie
 
 abbrev Inv-loop : tie.InvT-loop
-Inv-loop weights ranks totals₀ i₀ totals i = (i ≤ 64) × (length totals ≡ 65) × Adding totals weights ranks i
+Inv-loop weights ranks totals₀ i₀ totals i = (i ≤ 64) × (length totals ≡ rankLimit + 1) × Adding totals weights ranks i
 
 abbrev μ-loop : tie.MeasureT-loop
 μ-loop weights ranks totals₀ i₀ totals i = 64 - i
@@ -19,7 +19,7 @@ abbrev μ-loop : tie.MeasureT-loop
 loop-holds : tie.Need-loop-holds Inv-loop μ-loop
 loop-holds c =
     let a = c .args in
-    (zero-le, refl, adding-start 65 (a .weights .now) (a .ranks .now))
+    (zero-le, refl, adding-start (rankLimit + 1) (a .weights .now) (a .ranks .now))
 
 shared-slice-read-rank : tie.Need-shared-slice-read-rank Inv-loop μ-loop
 shared-slice-read-rank c = search needs

@@ -15,16 +15,16 @@ use Rattle.text.specs.declared.ranks.Rank.{Rank}
 use Rattle.drill.specs.declared.DrillCall.{DrillCall}
 use Rattle.console.specs.Words.{firstOf, restOf, noWord}
 use Rattle.console.specs.declared.lines.Line.{Line}
-use Rattle.console.specs.Lines.{missing, unnamed, isGood, marked, given, allGood, ranksIn, callOf, defaultLine, defaultRanks, pairLine, otherLine, defaultWord, lineIn, ranksFor}
+use Rattle.console.specs.Lines.{missingRanks, unnamed, isGood, marked, given, allGood, ranksIn, callOf, defaultLine, defaultRanks, pairLine, otherLine, defaultWord, lineIn, ranksFor}
 
 pub never : {X : Type 0} → false ≡ true → X
 never h = let z : _≡_ {A = ℕ} 0 1 = cc in absurd (omega arith)
 
 -- a list that is filled to its end
-pub filled : (d ranks : List ℕ) (i : ℕ) → i ≡ 64 → length d ≡ 64 → ranks ≡ replicate i 255 ++ drop i d → ranks ≡ missing
+pub filled : (d ranks : List ℕ) (i : ℕ) → i ≡ 64 → length d ≡ 64 → ranks ≡ replicate i 255 ++ drop i d → ranks ≡ missingRanks
 filled d ranks i e l h =
     let k : drop 64 d ≡ [] = drop-of-length-le d (let g : length d ≤ 64 = omega arith in g) in
-    h ∙ ap (λ (j : ℕ). replicate j 255 ++ drop j d) e ∙ ap (λ (t : List ℕ). missing ++ t) k
+    h ∙ ap (λ (j : ℕ). replicate j 255 ++ drop j d) e ∙ ap (λ (t : List ℕ). missingRanks ++ t) k
 
 -- what is known of a rank that was read
 pub fits-is : {r k : Rank} → r ≡ k → RankFits r → RankFits k
@@ -62,20 +62,20 @@ module _ (ws vs : List (List ℕ)) (e : vs ≡ restOf (restOf ws)) where
     unfolding pairLine
     pair-made h a b r f g k = check-true _ _ _ (ap noWord (sym e) ∙ h) (k ∙ rw (f, g))
 
-  pub default-bad : allGood unnamed vs ≡ false → (Line.Unreadable ≡ defaultLine ws) × (missing ≡ defaultRanks ws)
+  pub default-bad : allGood unnamed vs ≡ false → (Line.Unreadable ≡ defaultLine ws) × (missingRanks ≡ defaultRanks ws)
   unfolding defaultLine defaultRanks
   default-bad h =
       let t : allGood unnamed (restOf (restOf ws)) ≡ false = ap (allGood unnamed) (sym e) ∙ h in
       (check-false _ _ _ t refl, check-false _ _ _ t refl)
 
-  pub default-made : allGood unnamed vs ≡ true → (a b : Number) (r : Line) → a ≡ readOf (firstOf ws) → b ≡ readOf (firstOf (restOf ws)) → r ≡ callOf DrillCall.Default a b → (ranks : List ℕ) → ranks ≡ missing → (r ≡ defaultLine ws) × (ranksIn ranks vs ≡ defaultRanks ws)
+  pub default-made : allGood unnamed vs ≡ true → (a b : Number) (r : Line) → a ≡ readOf (firstOf ws) → b ≡ readOf (firstOf (restOf ws)) → r ≡ callOf DrillCall.Default a b → (ranks : List ℕ) → ranks ≡ missingRanks → (r ≡ defaultLine ws) × (ranksIn ranks vs ≡ defaultRanks ws)
   unfolding defaultLine defaultRanks
   default-made h a b r f g k ranks m =
       let t : allGood unnamed (restOf (restOf ws)) ≡ true = ap (allGood unnamed) (sym e) ∙ h in
       (check-true _ _ _ t (k ∙ rw (f, g)), check-true _ _ _ t (rw (m, e)))
 
 -- a line by its first word
-pub line-blank : (ws : List (List ℕ)) → noWord ws ≡ true → (Line.Blank ≡ lineIn ws) × (missing ≡ ranksFor ws)
+pub line-blank : (ws : List (List ℕ)) → noWord ws ≡ true → (Line.Blank ≡ lineIn ws) × (missingRanks ≡ ranksFor ws)
 unfolding lineIn ranksFor check
 line-blank ws h = rw (no-words ws h) (refl, refl)
 
@@ -86,7 +86,7 @@ module _ (ws : List (List ℕ)) (h : noWord ws ≡ false) (w : List ℕ) (e : fi
       let u : sameOf (firstOf ws) defaultWord ≡ true = rw e t in
       (check-false _ _ _ h (check-true _ _ _ u (p ∙ ap defaultLine (sym f))), check-true _ _ _ u (q ∙ ap defaultRanks (sym f)))
 
-  pub line-other : sameOf w defaultWord ≡ false → r ≡ otherLine w vs → k ≡ missing → (r ≡ lineIn ws) × (k ≡ ranksFor ws)
+  pub line-other : sameOf w defaultWord ≡ false → r ≡ otherLine w vs → k ≡ missingRanks → (r ≡ lineIn ws) × (k ≡ ranksFor ws)
   unfolding lineIn ranksFor
   line-other t p q =
       let u : sameOf (firstOf ws) defaultWord ≡ false = rw e t in

@@ -5,6 +5,7 @@ use mathlib.Core.List.{List, [], _∷_}
 use lib.Dec.{eqb}
 use lib.ListN.{getD, set, replicate}
 use Rattle.lists.specs.Checks.{check}
+use Rattle.lists.specs.Texts.{ascii}
 use Rattle.text.specs.Numbers.{readOf}
 use Rattle.text.specs.Words.{sameOf}
 use Rattle.text.specs.Ranks.{rankOf}
@@ -15,25 +16,25 @@ use Rattle.console.specs.Words.{firstOf, restOf, noWord, wordsOf}
 use Rattle.console.specs.declared.lines.Line.{Line}
 use Rattle.console.specs.declared.lines.Pair.{Pair}
 
--- `default`, `payment`, `replenishment`, `close`, `register`
+-- the first words of a line
 abbrev pub defaultWord : List ℕ
-defaultWord = 100 ∷ 101 ∷ 102 ∷ 97 ∷ 117 ∷ 108 ∷ 116 ∷ []
+defaultWord = ascii "default"
 
 abbrev pub paymentWord : List ℕ
-paymentWord = 112 ∷ 97 ∷ 121 ∷ 109 ∷ 101 ∷ 110 ∷ 116 ∷ []
+paymentWord = ascii "payment"
 
 abbrev pub replenishmentWord : List ℕ
-replenishmentWord = 114 ∷ 101 ∷ 112 ∷ 108 ∷ 101 ∷ 110 ∷ 105 ∷ 115 ∷ 104 ∷ 109 ∷ 101 ∷ 110 ∷ 116 ∷ []
+replenishmentWord = ascii "replenishment"
 
 abbrev pub closeWord : List ℕ
-closeWord = 99 ∷ 108 ∷ 111 ∷ 115 ∷ 101 ∷ []
+closeWord = ascii "close"
 
 abbrev pub registerWord : List ℕ
-registerWord = 114 ∷ 101 ∷ 103 ∷ 105 ∷ 115 ∷ 116 ∷ 101 ∷ 114 ∷ []
+registerWord = ascii "register"
 
 -- "A member that is not named, or is named as `M:` with a blank rank, has the missing rank 255"
-abbrev pub missing : List ℕ
-missing = replicate 64 255
+abbrev pub missingRanks : List ℕ
+missingRanks = replicate 64 255
 
 -- no member is named yet
 abbrev pub unnamed : List ℕ
@@ -85,7 +86,7 @@ unfoldable pub defaultLine : List (List ℕ) → Line
 defaultLine ws = check (allGood unnamed (restOf (restOf ws))) (numbersOf DrillCall.Default ws) Line.Unreadable
 
 unfoldable pub defaultRanks : List (List ℕ) → List ℕ
-defaultRanks ws = check (allGood unnamed (restOf (restOf ws))) (ranksIn missing (restOf (restOf ws))) missing
+defaultRanks ws = check (allGood unnamed (restOf (restOf ws))) (ranksIn missingRanks (restOf (restOf ws))) missingRanks
 
 -- `payment M AMOUNT`, `replenishment M AMOUNT`: "a word too many" is unreadable
 unfoldable pub pairLine : (ℕ → ℕ → DrillCall) → List (List ℕ) → Line
@@ -112,7 +113,7 @@ lineIn ws =
     (otherLine (firstOf ws) (restOf ws)))
 
 unfoldable pub ranksFor : List (List ℕ) → List ℕ
-ranksFor ws = check (sameOf (firstOf ws) defaultWord) (defaultRanks (restOf ws)) missing
+ranksFor ws = check (sameOf (firstOf ws) defaultWord) (defaultRanks (restOf ws)) missingRanks
 
 -- what a line says
 abbrev pub lineOf : List ℕ → Line

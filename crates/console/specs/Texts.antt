@@ -5,6 +5,7 @@ use mathlib.Core.List.{List, [], _∷_, _++_}
 use lib.Dec.{eqb, ltb}
 use lib.ListN.{getD}
 use Rattle.lists.specs.Checks.{check}
+use Rattle.lists.specs.Texts.{ascii}
 use Rattle.text.specs.Numbers.{decimalOf}
 use Rattle.sheets.specs.declared.Refusal.{Refusal}
 use Rattle.waterfall.specs.View.{figuresOf}
@@ -15,125 +16,95 @@ use Rattle.waterfall.specs.declared.view.MemberView.{MemberView}
 use Rattle.sizing.specs.declared.Sized.{Sized}
 use Rattle.console.specs.declared.answers.Rows.{Rows}
 
--- '\\n'
 abbrev pub newline : List ℕ
-newline = 10 ∷ []
+newline = ascii "\n"
 
--- 'accepted\\n'
 abbrev pub acceptedLine : List ℕ
-acceptedLine = 97 ∷ 99 ∷ 99 ∷ 101 ∷ 112 ∷ 116 ∷ 101 ∷ 100 ∷ 10 ∷ []
+acceptedLine = ascii "accepted\n"
 
--- 'opening accepted\\n'
-abbrev pub openingAccepted : List ℕ
-openingAccepted = 111 ∷ 112 ∷ 101 ∷ 110 ∷ 105 ∷ 110 ∷ 103 ∷ 32 ∷ 97 ∷ 99 ∷ 99 ∷ 101 ∷ 112 ∷ 116 ∷ 101 ∷ 100 ∷ 10 ∷ []
+abbrev pub openingAcceptedLine : List ℕ
+openingAcceptedLine = ascii "opening accepted\n"
 
--- 'opening '
 abbrev pub openingWord : List ℕ
-openingWord = 111 ∷ 112 ∷ 101 ∷ 110 ∷ 105 ∷ 110 ∷ 103 ∷ 32 ∷ []
+openingWord = ascii "opening "
 
--- 'refused '
 abbrev pub refusedWord : List ℕ
-refusedWord = 114 ∷ 101 ∷ 102 ∷ 117 ∷ 115 ∷ 101 ∷ 100 ∷ 32 ∷ []
+refusedWord = ascii "refused "
 
--- ' record '
 abbrev pub recordWord : List ℕ
-recordWord = 32 ∷ 114 ∷ 101 ∷ 99 ∷ 111 ∷ 114 ∷ 100 ∷ 32 ∷ []
+recordWord = ascii " record "
 
--- 'unreadable line '
 abbrev pub unreadableWords : List ℕ
-unreadableWords = 117 ∷ 110 ∷ 114 ∷ 101 ∷ 97 ∷ 100 ∷ 97 ∷ 98 ∷ 108 ∷ 101 ∷ 32 ∷ 108 ∷ 105 ∷ 110 ∷ 101 ∷ 32 ∷ []
+unreadableWords = ascii "unreadable line "
 
--- 'accepted fallen '
 abbrev pub fallenWords : List ℕ
-fallenWords = 97 ∷ 99 ∷ 99 ∷ 101 ∷ 112 ∷ 116 ∷ 101 ∷ 100 ∷ 32 ∷ 102 ∷ 97 ∷ 108 ∷ 108 ∷ 101 ∷ 110 ∷ 32 ∷ []
+fallenWords = ascii "accepted fallen "
 
--- ' layers '
 abbrev pub layersWord : List ℕ
-layersWord = 32 ∷ 108 ∷ 97 ∷ 121 ∷ 101 ∷ 114 ∷ 115 ∷ 32 ∷ []
+layersWord = ascii " layers "
 
--- ' '
 abbrev pub space : List ℕ
-space = 32 ∷ []
+space = ascii " "
 
--- ' short '
 abbrev pub shortWord : List ℕ
-shortWord = 32 ∷ 115 ∷ 104 ∷ 111 ∷ 114 ∷ 116 ∷ 32 ∷ []
+shortWord = ascii " short "
 
--- '  member '
 abbrev pub memberWord : List ℕ
-memberWord = 32 ∷ 32 ∷ 109 ∷ 101 ∷ 109 ∷ 98 ∷ 101 ∷ 114 ∷ 32 ∷ []
+memberWord = ascii "  member "
 
--- ' charged '
 abbrev pub chargedWord : List ℕ
-chargedWord = 32 ∷ 99 ∷ 104 ∷ 97 ∷ 114 ∷ 103 ∷ 101 ∷ 100 ∷ 32 ∷ []
+chargedWord = ascii " charged "
 
--- ' called '
 abbrev pub calledWord : List ℕ
-calledWord = 32 ∷ 99 ∷ 97 ∷ 108 ∷ 108 ∷ 101 ∷ 100 ∷ 32 ∷ []
+calledWord = ascii " called "
 
--- 'register tranche1 '
 abbrev pub firstWords : List ℕ
-firstWords = 114 ∷ 101 ∷ 103 ∷ 105 ∷ 115 ∷ 116 ∷ 101 ∷ 114 ∷ 32 ∷ 116 ∷ 114 ∷ 97 ∷ 110 ∷ 99 ∷ 104 ∷ 101 ∷ 49 ∷ 32 ∷ []
+firstWords = ascii "register tranche1 "
 
--- ' tranche2 '
 abbrev pub secondWord : List ℕ
-secondWord = 32 ∷ 116 ∷ 114 ∷ 97 ∷ 110 ∷ 99 ∷ 104 ∷ 101 ∷ 50 ∷ 32 ∷ []
+secondWord = ascii " tranche2 "
 
--- ' live'
 abbrev pub liveWord : List ℕ
-liveWord = 32 ∷ 108 ∷ 105 ∷ 118 ∷ 101 ∷ []
+liveWord = ascii " live"
 
--- ' default'
-abbrev pub defaultWord : List ℕ
-defaultWord = 32 ∷ 100 ∷ 101 ∷ 102 ∷ 97 ∷ 117 ∷ 108 ∷ 116 ∷ []
+abbrev pub defaultedWord : List ℕ
+defaultedWord = ascii " default"
 
--- ' margin '
 abbrev pub marginWord : List ℕ
-marginWord = 32 ∷ 109 ∷ 97 ∷ 114 ∷ 103 ∷ 105 ∷ 110 ∷ 32 ∷ []
+marginWord = ascii " margin "
 
--- ' contribution '
 abbrev pub contributionWord : List ℕ
-contributionWord = 32 ∷ 99 ∷ 111 ∷ 110 ∷ 116 ∷ 114 ∷ 105 ∷ 98 ∷ 117 ∷ 116 ∷ 105 ∷ 111 ∷ 110 ∷ 32 ∷ []
+contributionWord = ascii " contribution "
 
--- ' requirement '
 abbrev pub requirementWord : List ℕ
-requirementWord = 32 ∷ 114 ∷ 101 ∷ 113 ∷ 117 ∷ 105 ∷ 114 ∷ 101 ∷ 109 ∷ 101 ∷ 110 ∷ 116 ∷ 32 ∷ []
+requirementWord = ascii " requirement "
 
--- ' cap '
 abbrev pub capWord : List ℕ
-capWord = 32 ∷ 99 ∷ 97 ∷ 112 ∷ 32 ∷ []
+capWord = ascii " cap "
 
--- ' outstanding '
 abbrev pub outstandingWord : List ℕ
-outstandingWord = 32 ∷ 111 ∷ 117 ∷ 116 ∷ 115 ∷ 116 ∷ 97 ∷ 110 ∷ 100 ∷ 105 ∷ 110 ∷ 103 ∷ 32 ∷ []
+outstandingWord = ascii " outstanding "
 
--- 'accepted C '
 abbrev pub coverWords : List ℕ
-coverWords = 97 ∷ 99 ∷ 99 ∷ 101 ∷ 112 ∷ 116 ∷ 101 ∷ 100 ∷ 32 ∷ 67 ∷ 32 ∷ []
+coverWords = ascii "accepted C "
 
--- ' W '
 abbrev pub weakWord : List ℕ
-weakWord = 32 ∷ 87 ∷ 32 ∷ []
+weakWord = ascii " W "
 
--- ' A '
 abbrev pub targetWord : List ℕ
-targetWord = 32 ∷ 65 ∷ 32 ∷ []
+targetWord = ascii " A "
 
--- ' B '
 abbrev pub minimumWord : List ℕ
-minimumWord = 32 ∷ 66 ∷ 32 ∷ []
+minimumWord = ascii " B "
 
--- ' b1 '
 abbrev pub highestWord : List ℕ
-highestWord = 32 ∷ 98 ∷ 49 ∷ 32 ∷ []
+highestWord = ascii " b1 "
 
--- ' own '
 abbrev pub ownWord : List ℕ
-ownWord = 32 ∷ 111 ∷ 119 ∷ 110 ∷ 32 ∷ []
+ownWord = ascii " own "
 
--- ' D '
 abbrev pub quantumWord : List ℕ
-quantumWord = 32 ∷ 68 ∷ 32 ∷ []
+quantumWord = ascii " D "
 
 -- a text with a number behind it
 abbrev pub labelled : List ℕ → ℕ → List ℕ
@@ -156,7 +127,7 @@ refusalText number position =
 
 -- "`opening accepted`, or `opening refused N record P` for 4 to 8, `opening refused N` else"
 unfoldable pub openingText : Refusal → List ℕ
-openingText r = check (eqb (r .number) 0) openingAccepted (openingWord ++ refusalText (r .number) (r .position))
+openingText r = check (eqb (r .number) 0) openingAcceptedLine (openingWord ++ refusalText (r .number) (r .position))
 
 -- "`unreadable line K`"
 unfoldable pub unreadableText : ℕ → List ℕ
@@ -190,7 +161,7 @@ replyText (Reply.Allocated a) slip = allocationText a ++ chargesText slip 64
 
 -- "`live`; `default` in place of `live` for a defaulter"
 unfoldable pub statusText : ℕ → List ℕ
-statusText status = check (eqb status 2) defaultWord liveWord
+statusText status = check (eqb status 2) defaultedWord liveWord
 
 unfoldable pub nameText : ℕ → ℕ → List ℕ
 nameText member status = labelled memberWord member ++ statusText status

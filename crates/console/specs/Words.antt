@@ -5,6 +5,7 @@ use mathlib.Core.Bool.{Bool, true, false}
 use mathlib.Core.List.{List, [], _∷_}
 use lib.Dec.{eqb}
 use Rattle.lists.specs.Checks.{check}
+use Rattle.lists.specs.Texts.{ascii}
 use Rattle.text.specs.Words.{inWord}
 
 -- the first word, which is empty where there is none, and the others
@@ -34,7 +35,6 @@ wordsOf (b ∷ s) =
     (check (goesOn s) ((b ∷ firstOf (wordsOf s)) ∷ restOf (wordsOf s))
     ((b ∷ []) ∷ wordsOf s)))
 
--- "a  bc #d" has the words "a" and "bc"
-two-words : wordsOf (97 ∷ 32 ∷ 32 ∷ 98 ∷ 99 ∷ 32 ∷ 35 ∷ 100 ∷ []) ≡ (97 ∷ []) ∷ (98 ∷ 99 ∷ []) ∷ []
+two-words : wordsOf (ascii "a  bc #d") ≡ ascii "a" ∷ ascii "bc" ∷ []
 unfolding wordsOf check
 two-words = refl

@@ -13,7 +13,7 @@ ghost use lib.ListN.{length, drop};
 ghost use Rattle.text.specs.Ranks.{rankOf};
 ghost use Rattle.text.specs.Numbers.{readOf};
 ghost use Rattle.console.specs.Words.{wordsOf, noWord, firstOf, restOf};
-ghost use Rattle.console.specs.Lines.{missing, isGood, marked, given, allGood, ranksIn, makeOf, callOf, defaultLine, defaultRanks, pairLine, alone, otherLine, lineOf, ranksOf};
+ghost use Rattle.console.specs.Lines.{missingRanks, isGood, marked, given, allGood, ranksIn, makeOf, callOf, defaultLine, defaultRanks, pairLine, alone, otherLine, lineOf, ranksOf};
 
 pub enum Line {
     Blank,
@@ -39,7 +39,7 @@ struct Two {
 // Every rank is missing.
 fn clear(ranks: &mut [u8])
     requires { ⌜ length (now ranks) ≡ 64 ⌝ }
-    ensures { λ r. ⌜ now (ranks .exit) ≡ missing ⌝ }
+    ensures { λ r. ⌜ now (ranks .exit) ≡ missingRanks ⌝ }
 {
     let mut i: usize = 0;
     while i < 64 {
@@ -148,7 +148,7 @@ fn call_of(kind: Pair, first: Number, second: Number) -> Line
 
 // What follows `default`.
 fn default_line(line: &[u8], from: usize, ranks: &mut [u8]) -> Line
-    requires { ⌜ now ranks ≡ missing ⌝ }
+    requires { ⌜ now ranks ≡ missingRanks ⌝ }
     ensures { λ r. ⌜ r ≡ defaultLine (wordsOf (drop from (now (line .entry)))) ⌝ }
     ensures { λ r. ⌜ now (ranks .exit) ≡ defaultRanks (wordsOf (drop from (now (line .entry)))) ⌝ }
 {

@@ -6,6 +6,7 @@ use mathlib.Core.List.{List, [], _∷_}
 use lib.Dec.{eqb, ltb}
 use lib.ListN.{length, getD, take, drop}
 use Rattle.lists.specs.Checks.{check}
+use Rattle.lists.specs.Texts.{ascii}
 use Rattle.text.specs.Numbers.{isEmpty, readOf}
 use Rattle.text.specs.Words.{run, isSpace, isNot}
 use Rattle.text.specs.declared.numbers.Number.{Number}
@@ -61,15 +62,14 @@ byteOf = fieldOf 255 256
 abbrev pub halfOf : List ℕ → Field
 halfOf = fieldOf 65535 65536
 
--- " 7 " is 7, "  " is blank, "7x" is bad
-seven-cell : byteOf (32 ∷ 55 ∷ 32 ∷ []) ≡ Field.Value 7
+seven-cell : byteOf (ascii " 7 ") ≡ Field.Value 7
 unfolding fieldOf trimmed readOf check
 seven-cell = refl
 
-blank-cell : byteOf (32 ∷ 32 ∷ []) ≡ Field.Value 255
+blank-cell : byteOf (ascii "  ") ≡ Field.Value 255
 unfolding fieldOf trimmed readOf check
 blank-cell = refl
 
-bad-cell : byteOf (55 ∷ 120 ∷ []) ≡ Field.Bad
+bad-cell : byteOf (ascii "7x") ≡ Field.Bad
 unfolding fieldOf trimmed readOf check
 bad-cell = refl

@@ -5,6 +5,7 @@ use mathlib.Core.Bool.{Bool, true, false, not, _&&_}
 use mathlib.Core.List.{List, [], _∷_, _++_}
 use lib.Dec.{leb, ltb}
 use Rattle.lists.specs.Checks.{check}
+use Rattle.lists.specs.Texts.{ascii}
 use Rattle.text.specs.declared.numbers.Number.{Number}
 use Rattle.text.specs.declared.numbers.Number.the-variants.{Value, NotANumber}
 
@@ -39,20 +40,18 @@ digitsOf (suc most) n = check (ltb n 10) ((48 + n) ∷ []) (digitsOf most (n / 1
 unfoldable pub decimalOf : ℕ → List ℕ
 decimalOf n = digitsOf 20 n
 
--- 0 and 10 as they are printed
-zero-printed : decimalOf 0 ≡ 48 ∷ []
+zero-printed : decimalOf 0 ≡ ascii "0"
 unfolding decimalOf check
 zero-printed = refl
 
-ten-printed : decimalOf 10 ≡ 49 ∷ 48 ∷ []
+ten-printed : decimalOf 10 ≡ ascii "10"
 unfolding decimalOf check
 ten-printed = refl
 
--- "007" is 7, "-1" is no number
-seven-read : readOf (48 ∷ 48 ∷ 55 ∷ []) ≡ Value 7
+seven-read : readOf (ascii "007") ≡ Value 7
 unfolding readOf check
 seven-read = refl
 
-minus-read : readOf (45 ∷ 49 ∷ []) ≡ NotANumber
+minus-read : readOf (ascii "-1") ≡ NotANumber
 unfolding readOf check
 minus-read = refl

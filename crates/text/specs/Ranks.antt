@@ -5,6 +5,7 @@ use mathlib.Core.List.{List, [], _∷_}
 use lib.Dec.{eqb, ltb}
 use lib.ListN.{length, drop}
 use Rattle.lists.specs.Checks.{check}
+use Rattle.lists.specs.Texts.{ascii}
 use Rattle.text.specs.Numbers.{readOf}
 use Rattle.text.specs.Words.{run, isNot}
 use Rattle.text.specs.Cells.{before, byteOf, trimmed, fieldOf}
@@ -33,15 +34,14 @@ abbrev pub RankFits : Rank → Type 0
 RankFits (Rank.Of m r) = (0 < m) × (m ≤ 64) × (r < 256)
 RankFits Rank.Bad = Unit {0}
 
--- "3:2", "3:" and "3"
-typed : rankOf (51 ∷ 58 ∷ 50 ∷ []) ≡ Rank.Of 3 2
+typed : rankOf (ascii "3:2") ≡ Rank.Of 3 2
 unfolding rankOf fieldOf trimmed readOf check
 typed = refl
 
-missing : rankOf (51 ∷ 58 ∷ []) ≡ Rank.Of 3 255
+blank : rankOf (ascii "3:") ≡ Rank.Of 3 255
 unfolding rankOf fieldOf trimmed readOf check
-missing = refl
+blank = refl
 
-no-colon : rankOf (51 ∷ []) ≡ Rank.Bad
+no-colon : rankOf (ascii "3") ≡ Rank.Bad
 unfolding rankOf fieldOf trimmed readOf check
 no-colon = refl

@@ -4,6 +4,7 @@ use mathlib.Core.Path.{_≡_, refl}
 use mathlib.Core.List.{List, [], _∷_, _++_}
 use lib.Dec.{eqb}
 use Rattle.lists.specs.Checks.{check}
+use Rattle.lists.specs.Texts.{ascii}
 use Rattle.text.specs.Buffer.{le}
 use Rattle.text.specs.Numbers.{isEmpty, readOf}
 use Rattle.text.specs.Words.{sameOf}
@@ -15,13 +16,13 @@ use Rattle.text.specs.declared.rows.Row.{Row}
 
 -- "KIND is `register`, `shares` or `stress`."
 abbrev pub register : List ℕ
-register = 114 ∷ 101 ∷ 103 ∷ 105 ∷ 115 ∷ 116 ∷ 101 ∷ 114 ∷ []
+register = ascii "register"
 
 abbrev pub shares : List ℕ
-shares = 115 ∷ 104 ∷ 97 ∷ 114 ∷ 101 ∷ 115 ∷ []
+shares = ascii "shares"
 
 abbrev pub stress : List ℕ
-stress = 115 ∷ 116 ∷ 114 ∷ 101 ∷ 115 ∷ 115 ∷ []
+stress = ascii "stress"
 
 unfoldable pub namedOf : List ℕ → Named
 namedOf word =
@@ -91,15 +92,14 @@ bytesOf Row.Bad = []
 bytesOf (Row.Member m a b c) = le 1 m ++ le 3 0 ++ le 4 a ++ le 4 b ++ le 4 c
 bytesOf (Row.Stress d s m w l) = le 2 d ++ le 2 s ++ le 1 m ++ le 1 w ++ le 2 0 ++ le 4 l ++ le 4 0
 
--- "1,2,,4" is a record with a missing amount, "1,2,4" is bad, and "  # none" is skipped
-one : rowOf Kind.Register (49 ∷ 44 ∷ 50 ∷ 44 ∷ 44 ∷ 52 ∷ []) ≡ Row.Member 1 2 4294967295 4
+one : rowOf Kind.Register (ascii "1,2,,4") ≡ Row.Member 1 2 4294967295 4
 unfolding rowOf contentOf endOf trimmed cellsOf fieldOf readOf check
 one = refl
 
-few : rowOf Kind.Register (49 ∷ 44 ∷ 50 ∷ 44 ∷ 52 ∷ []) ≡ Row.Bad
+few : rowOf Kind.Register (ascii "1,2,4") ≡ Row.Bad
 unfolding rowOf contentOf endOf trimmed cellsOf fieldOf readOf check
 few = refl
 
-none : rowOf Kind.Register (32 ∷ 32 ∷ 35 ∷ 32 ∷ 110 ∷ []) ≡ Row.Skipped
+none : rowOf Kind.Register (ascii "  # n") ≡ Row.Skipped
 unfolding rowOf contentOf endOf trimmed cellsOf fieldOf readOf check
 none = refl

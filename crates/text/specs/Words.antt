@@ -6,6 +6,7 @@ use mathlib.Core.List.{List, [], _∷_}
 use lib.Dec.{eqb}
 use lib.ListN.{length, take, drop}
 use Rattle.lists.specs.Checks.{check}
+use Rattle.lists.specs.Texts.{ascii}
 use Rattle.text.specs.declared.words.Word.{Word}
 
 -- how many bytes at the front of s pass the test
@@ -52,11 +53,10 @@ sameOf [] (y ∷ t) = false
 sameOf (x ∷ s) [] = false
 sameOf (x ∷ s) (y ∷ t) = eqb x y && sameOf s t
 
--- of " ab#c" the first word is "ab", and none follows
-first-word : wordOf (32 ∷ 97 ∷ 98 ∷ 35 ∷ 99 ∷ []) 0 ≡ record { start = 1; end = 3 }
+first-word : wordOf (ascii " ab#c") 0 ≡ record { start = 1; end = 3 }
 unfolding wordOf check
 first-word = refl
 
-no-word : wordOf (32 ∷ 97 ∷ 98 ∷ 35 ∷ 99 ∷ []) 3 ≡ record { start = 3; end = 3 }
+no-word : wordOf (ascii " ab#c") 3 ≡ record { start = 3; end = 3 }
 unfolding wordOf check
 no-word = refl

@@ -1,7 +1,7 @@
 // Repeated defaults of member 17 of one register of 64 members.
 use crate::fold::fold;
-use text::Row;
-use text::put_row;
+use rows::Row;
+use rows::put_row;
 use waterfall::Allocation;
 use waterfall::Outcome;
 use waterfall::Register;

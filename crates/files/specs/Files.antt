@@ -1,6 +1,6 @@
 -- What a caller may count on. No contract can say what an argument or a file holds.
 use Prim.Native.Nat.{ℕ, _^_, _≤_, _<_}
-use Rattle.text.specs.declared.numbers.Number.{Number}
+use Rattle.numbers.specs.declared.Number.{Number}
 use Rattle.files.specs.declared.Sheet.{Sheet}
 use Rattle.files.specs.declared.Step.{Step}
 

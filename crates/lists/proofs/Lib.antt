@@ -3,3 +3,4 @@ pub mod Sums
 pub mod Checks
 pub mod Fill
 pub mod Places
+pub mod Cases

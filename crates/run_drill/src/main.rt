@@ -1,11 +1,11 @@
 // Opens a register and answers drill calls, one a line of standard input. The answers to the lines that came with one read are written before the
 // next read.
-use console::Line;
 use files::Sheet;
 use libc::STDERR_FILENO;
 use libc::STDIN_FILENO;
 use libc::STDOUT_FILENO;
-use text::Number;
+use lines::Line;
+use numbers::Number;
 use waterfall::Register;
 use waterfall::Reply;
 ghost use mathlib.Core.Path.{_≡_};
@@ -55,7 +55,7 @@ fn behind(at: usize) -> usize {
 
 // Writes the first n bytes.
 fn say(out: &[u8], n: usize) -> bool {
-    if io::write_all(STDOUT_FILENO, text::part(out, 0, n)) {
+    if io::write_all(STDOUT_FILENO, words::part(out, 0, n)) {
         return true;
     }
     os::fail(b"standard output");
@@ -67,13 +67,13 @@ fn read(line: &mut [u8], len: usize, piece: &[u8], ranks: &mut [u8]) -> Line
     requires { ⌜ length (now ranks) ≡ 64 ⌝ }
 {
     if (len == 0) & (piece.len() <= line.len()) {
-        return console::read_line(piece, ranks);
+        return lines::read_line(piece, ranks);
     }
-    let whole = text::append(line, len, piece);
+    let whole = buffers::append(line, len, piece);
     if line.len() < whole {
         return Line::Unreadable;
     }
-    console::read_line(text::part(line, 0, whole), ranks)
+    lines::read_line(words::part(line, 0, whole), ranks)
 }
 
 // Takes the chunk's bytes up to the next newline.
@@ -82,10 +82,10 @@ fn take_piece(chunk: &[u8], line: &mut [u8], ranks: &mut [u8], p: Progress) -> T
 {
     let from = p.from;
     let have = p.have;
-    let to = text::find_newline(chunk, from, have);
-    let piece = text::part(chunk, from, to);
+    let to = words::find_newline(chunk, from, have);
+    let piece = words::part(chunk, from, to);
     if have <= to {
-        let len = text::append(line, p.len, piece);
+        let len = buffers::append(line, p.len, piece);
         return Taken {
             says: Line::Blank,
             progress: Progress {
@@ -187,19 +187,19 @@ fn make_room(out: &[u8], used: usize, p: Progress) -> Kept
 fn put_unreadable(out: &mut [u8], at: usize, number: u64) -> usize
     requires { ⌜ (at ≤ 49152) × (length (now out) ≡ 65536) ⌝ }
 {
-    at + console::put_unreadable(&mut out[at..], number)
+    at + print_answers::put_unreadable(&mut out[at..], number)
 }
 
 fn put_register(out: &mut [u8], at: usize, register: Register) -> usize
     requires { ⌜ (at ≤ 49152) × (length (now out) ≡ 65536) ⌝ }
 {
-    at + console::put_register(&mut out[at..], register)
+    at + print_register::put_register(&mut out[at..], register)
 }
 
 fn put_reply(out: &mut [u8], at: usize, reply: Reply, slip: &[u64]) -> usize
     requires { ⌜ (at ≤ 49152) × (length (now out) ≡ 65536) × (length (now slip) ≡ 128) ⌝ }
 {
-    at + console::put_reply(&mut out[at..], reply, slip)
+    at + print_answers::put_reply(&mut out[at..], reply, slip)
 }
 
 // The turns are counted down from a number that no run uses up.
@@ -260,7 +260,7 @@ fn run(sheet: &[u8], own: u64) {
     let mut ranks = [255u8; 64];
     let mut slip = [0u64; 128];
     let mut out = [0u8; 65536];
-    let n = console::put_opening(&mut out, refusal);
+    let n = print_refusal::put_opening(&mut out, refusal);
     if say(&out, n) {
         drill(
             register,
@@ -288,6 +288,6 @@ fn main() {
     };
     let mut sheet = [0u8; 1040];
     if let Sheet::Read(n) = files::read_sheet(1, &mut sheet) {
-        run(text::part(&sheet, 0, n), own);
+        run(words::part(&sheet, 0, n), own);
     }
 }

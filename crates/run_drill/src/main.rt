@@ -1,8 +1,8 @@
 // Opens a register and answers drill calls, one a line of standard input. The answers to the lines that came with one read are written before the
 // next read.
 use files::Sheet;
+use input::Progress;
 use libc::STDERR_FILENO;
-use libc::STDIN_FILENO;
 use libc::STDOUT_FILENO;
 use lines::Line;
 use numbers::Number;
@@ -16,41 +16,10 @@ ghost use Rattle.waterfall.specs.Register.{GivenBack};
 // Where no more of the answers are kept than this, there is room for any other.
 const KEPT: usize = 49152;
 
-// How far the input is read: the chunk's bytes from `from` to `have` are still to be taken, `len` bytes of the line are there, and `line` is its number.
-struct Progress {
-    from: usize,
-    have: usize,
-    len: usize,
-    line: u64,
-    going: bool,
-}
-
-// What the next line says, Blank where none has ended, and how far the input is read then.
-struct Taken {
-    says: Line,
-    progress: Progress,
-}
-
 // How much of the answers is not written yet, and whether the drill goes on.
 struct Kept {
     used: usize,
     going: bool,
-}
-
-// No run reaches the largest number.
-fn next(line: u64) -> u64 {
-    if line < u64::MAX {
-        return line + 1;
-    }
-    line
-}
-
-// The place behind a newline.
-fn behind(at: usize) -> usize {
-    if at < usize::MAX {
-        return at + 1;
-    }
-    at
 }
 
 // Writes the first n bytes.
@@ -60,112 +29,6 @@ fn say(out: &[u8], n: usize) -> bool {
     }
     os::fail(b"standard output");
     false
-}
-
-// What a line says that has `len` bytes in the buffer and ends with the piece. A line that is not cut by a read is read where it stands.
-fn read(line: &mut [u8], len: usize, piece: &[u8], ranks: &mut [u8]) -> Line
-    requires { ⌜ length (now ranks) ≡ 64 ⌝ }
-{
-    if (len == 0) & (piece.len() <= line.len()) {
-        return lines::read_line(piece, ranks);
-    }
-    let whole = buffers::append(line, len, piece);
-    if line.len() < whole {
-        return Line::Unreadable;
-    }
-    lines::read_line(words::part(line, 0, whole), ranks)
-}
-
-// Takes the chunk's bytes up to the next newline.
-fn take_piece(chunk: &[u8], line: &mut [u8], ranks: &mut [u8], p: Progress) -> Taken
-    requires { ⌜ length (now ranks) ≡ 64 ⌝ }
-{
-    let from = p.from;
-    let have = p.have;
-    let to = words::find_newline(chunk, from, have);
-    let piece = words::part(chunk, from, to);
-    if have <= to {
-        let len = buffers::append(line, p.len, piece);
-        return Taken {
-            says: Line::Blank,
-            progress: Progress {
-                from: have,
-                have,
-                len,
-                line: p.line,
-                going: true,
-            },
-        };
-    }
-    let says = read(line, p.len, piece, ranks);
-    Taken {
-        says,
-        progress: Progress {
-            from: behind(to),
-            have,
-            len: 0,
-            line: next(p.line),
-            going: true,
-        },
-    }
-}
-
-// The input has ended. A last line may have no newline.
-fn end_input(line: &mut [u8], ranks: &mut [u8], p: Progress) -> Taken
-    requires { ⌜ length (now ranks) ≡ 64 ⌝ }
-{
-    let progress = Progress {
-        from: 0,
-        have: 0,
-        len: 0,
-        line: p.line,
-        going: false,
-    };
-    let len = p.len;
-    if len == 0 {
-        return Taken {
-            says: Line::Blank,
-            progress,
-        };
-    }
-    let says = read(line, len, b"", ranks);
-    Taken { says, progress }
-}
-
-// Reads what is there.
-fn read_chunk(chunk: &mut [u8], line: &mut [u8], ranks: &mut [u8], p: Progress) -> Taken
-    requires { ⌜ length (now ranks) ≡ 64 ⌝ }
-{
-    let got = libc::read(STDIN_FILENO, chunk);
-    if got < 0 {
-        os::fail(b"standard input");
-    }
-    let have = io::count(got, chunk);
-    if have == 0 {
-        return end_input(line, ranks, p);
-    }
-    Taken {
-        says: Line::Blank,
-        progress: Progress {
-            from: 0,
-            have,
-            len: p.len,
-            line: p.line,
-            going: true,
-        },
-    }
-}
-
-// A line of the chunk, or another chunk.
-fn take(chunk: &mut [u8], line: &mut [u8], ranks: &mut [u8], p: Progress) -> Taken
-    requires { ⌜ length (now ranks) ≡ 64 ⌝ }
-{
-    let from = p.from;
-    let have = p.have;
-    if from < have {
-        return take_piece(chunk, line, ranks, p);
-    }
-    read_chunk(chunk, line, ranks, p)
 }
 
 // Writes the answers where there may be no room for another, and before the input is read on.
@@ -231,7 +94,7 @@ fn drill(
         }
         let at = kept.used;
         let number = p.line;
-        let taken = take(chunk, line, ranks, p);
+        let taken = input::take(chunk, line, ranks, p);
         let says = taken.says;
         let progress = taken.progress;
         p = progress;

@@ -1,4 +1,4 @@
--- A line of a sheet. "Spaces around a cell are dropped; CR before the line's end is dropped."
+-- A line of a sheet, as make_sheet reads it: "no header; spaces around a cell are dropped; CR before the line's end is dropped"
 use Prim.Native.Nat.{ℕ, _-_}
 use mathlib.Core.Path.{_≡_, refl}
 use mathlib.Core.Bool.{_&&_}
@@ -30,7 +30,7 @@ trimBack (b ∷ s) = check (isSpace b && isEmpty (trimBack s)) [] (b ∷ trimBac
 unfoldable pub trimmed : List ℕ → List ℕ
 trimmed s = trimBack (drop (run isSpace s) s)
 
--- a number that does not fit its field is bad, and so is what is no number
+-- "A cell that is no number or does not fit its field" is bad
 abbrev pub within : ℕ → Number → Field
 within limit (Number.Value v) = check (ltb v limit) (Field.Value v) Field.Bad
 within limit Number.NotANumber = Field.Bad
@@ -39,11 +39,11 @@ within limit Number.NotANumber = Field.Bad
 unfoldable pub fieldOf : ℕ → ℕ → List ℕ → Field
 fieldOf blank limit s = check (isEmpty (trimmed s)) (Field.Value blank) (within limit (readOf (trimmed s)))
 
--- "A blank amount is written as FFFFFFFF, missing. An amount of 4,294,967,295 typed as a number is refused."
+-- "A blank amount is written as FFFFFFFF, missing"; "An amount of 4,294,967,295 typed as a number is refused the same way, since it would read as missing."
 abbrev pub amountOf : List ℕ → Field
 amountOf = fieldOf 4294967295 4294967295
 
--- "Any other blank cell as all bits set."
+-- "any other blank cell as all bits set, which no check accepts. A blank is never written as zero."
 abbrev pub byteOf : List ℕ → Field
 byteOf = fieldOf 255 256
 
@@ -55,7 +55,7 @@ abbrev pub inFront : ℕ → List (List ℕ) → List (List ℕ)
 inFront b [] = (b ∷ []) ∷ []
 inFront b (c ∷ cs) = (b ∷ c) ∷ cs
 
--- "Comma-separated lines": a line cut at its commas
+-- "comma-separated lines": a line cut at its commas
 unfoldable pub cellsOf : List ℕ → List (List ℕ)
 cellsOf [] = [] ∷ []
 cellsOf (b ∷ s) = check (eqb b 44) ([] ∷ cellsOf s) (inFront b (cellsOf s))

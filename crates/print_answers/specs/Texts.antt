@@ -4,6 +4,7 @@ use mathlib.Core.Bool.{_&&_}
 use mathlib.Core.List.{List, [], _++_}
 use lib.Dec.{eqb}
 use lib.ListN.{getD}
+use Rattle.lists.specs.Limits.{memberLimit}
 use Rattle.lists.specs.Checks.{check}
 use Rattle.lists.specs.Texts.{ascii}
 use Rattle.numbers.specs.Numbers.{labelled}
@@ -36,13 +37,13 @@ chargeText member charge call =
     ++ labelled (ascii " called ") call
     ++ ascii "\n")
 
--- of the first k members: a slip has 64 charges, and then 64 calls
+-- of the first k members: a slip has a charge for each member number, and then a call for each
 unfoldable pub chargesText : List ℕ → ℕ → List ℕ
 chargesText slip zero = []
-chargesText slip (suc k) = chargesText slip k ++ chargeText (k + 1) (getD slip k 0) (getD slip (k + 64) 0)
+chargesText slip (suc k) = chargesText slip k ++ chargeText (k + 1) (getD slip k 0) (getD slip (k + memberLimit) 0)
 
 -- what is printed of a call's answer, with the slip that the call left
 abbrev pub replyText : Reply → List ℕ → List ℕ
 replyText (Reply.Refused number) slip = labelled (ascii "refused ") number ++ ascii "\n"
 replyText Reply.Accepted slip = ascii "accepted\n"
-replyText (Reply.Allocated a) slip = allocationText a ++ chargesText slip 64
+replyText (Reply.Allocated a) slip = allocationText a ++ chargesText slip memberLimit

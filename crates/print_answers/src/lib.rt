@@ -1,5 +1,6 @@
 // The answers of a drill as text, from the front of the buffer on. Each function answers how long the text is, or the place after it.
 use buffers::put_text;
+use lists::MEMBER_LIMIT;
 use numbers::as_number;
 use numbers::put_labelled;
 use numbers::put_two;
@@ -55,9 +56,9 @@ fn put_charges(out: &mut [u8], from: usize, slip: &[u64]) -> usize
 {
     let mut at = from;
     let mut i: usize = 0;
-    while i < 64 {
+    while i < MEMBER_LIMIT {
         let charge = slip[i];
-        let call = slip[i + 64];
+        let call = slip[i + MEMBER_LIMIT];
         at = put_charge(out, at, as_number(i + 1), charge, call);
         i += 1;
     }

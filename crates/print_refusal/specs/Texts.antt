@@ -2,13 +2,13 @@
 use Prim.Native.Nat.{ℕ}
 use mathlib.Core.Bool.{_||_}
 use mathlib.Core.List.{List, [], _++_}
-use lib.Dec.{eqb, ltb}
-use Rattle.lists.specs.Checks.{check}
+use lib.Dec.{ltb}
+use Rattle.lists.specs.Checks.{check, refuses}
 use Rattle.lists.specs.Texts.{ascii}
 use Rattle.numbers.specs.Numbers.{labelled}
 use Rattle.sheets.specs.declared.Refusal.{Refusal}
 
--- "`record P` for 4 to 8"
+-- the record, "for 4 to 8"
 unfoldable pub recordText : ℕ → ℕ → List ℕ
 recordText number position = check (ltb number 4 || ltb 8 number) [] (labelled (ascii " record ") position)
 
@@ -22,5 +22,5 @@ refusalText number position =
 -- "`opening accepted`, or `opening refused N record P` for 4 to 8, `opening refused N` else"
 unfoldable pub openingText : Refusal → List ℕ
 openingText r =
-    check (eqb (r .number) 0) (ascii "opening accepted\n")
-    (ascii "opening " ++ refusalText (r .number) (r .position))
+    check (refuses (r .number)) (ascii "opening " ++ refusalText (r .number) (r .position))
+    (ascii "opening accepted\n")

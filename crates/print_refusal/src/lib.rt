@@ -38,9 +38,9 @@ pub fn put_opening(out: &mut [u8], refusal: Refusal) -> usize
     ensures { λ r. ⌜ (r ≡ length (openingText refusal)) × (now (out .exit) ≡ written (now (out .entry)) 0 (openingText refusal)) ⌝ }
     ensures { λ r. ⌜ r ≤ 128 ⌝ }
 {
-    if refusal.number == 0 {
-        return put_text(out, 0, b"opening accepted\n");
+    if 0 < refusal.number {
+        let at = put_text(out, 0, b"opening ");
+        return put_refusal(out, at, wide(refusal.number), as_number(refusal.position));
     }
-    let at = put_text(out, 0, b"opening ");
-    put_refusal(out, at, wide(refusal.number), as_number(refusal.position))
+    put_text(out, 0, b"opening accepted\n")
 }

@@ -2,6 +2,7 @@
 use Prim.Native.Nat.{ℕ, zero, suc, _+_}
 use mathlib.Core.List.{List, [], _++_}
 use lib.Dec.{eqb}
+use Rattle.lists.specs.Limits.{memberLimit}
 use Rattle.lists.specs.Checks.{check}
 use Rattle.lists.specs.Texts.{ascii}
 use Rattle.numbers.specs.Numbers.{labelled}
@@ -40,4 +41,4 @@ registerText r =
     labelled (ascii "register tranche1 ") (r .first)
     ++ labelled (ascii " tranche2 ") (r .second)
     ++ ascii "\n"
-    ++ membersText r 64
+    ++ membersText r memberLimit

@@ -1,5 +1,6 @@
 // A register as text. Each function answers the place after the text.
 use buffers::put_text;
+use lists::MEMBER_LIMIT;
 use numbers::put_labelled;
 use numbers::put_two;
 use waterfall::Register;
@@ -11,6 +12,8 @@ ghost use Prim.Native.Nat.{_+_, _*_, _≤_};
 ghost use lib.ListN.{length};
 ghost use Rattle.buffers.specs.Buffer.{written};
 ghost use Rattle.print_register.specs.Texts.{statusText, nameText, memberText, membersText, registerText};
+
+const MEMBERS: u64 = MEMBER_LIMIT as u64;
 
 fn put_status(out: &mut [u8], at: usize, status: u8) -> usize
     requires { ⌜ at + 8 ≤ length (now out) ⌝ }
@@ -70,7 +73,7 @@ fn put_members(out: &mut [u8], from: usize, register: Register) -> usize
 {
     let mut at = from;
     let mut i: u64 = 0;
-    while i < 64 {
+    while i < MEMBERS {
         let view = member(register, i + 1);
         at = put_member(out, at, i + 1, view);
         i += 1;

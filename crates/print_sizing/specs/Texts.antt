@@ -3,7 +3,8 @@ use Prim.Native.Nat.{ℕ, zero, suc, _+_}
 use mathlib.Core.List.{List, [], _++_}
 use lib.Dec.{eqb}
 use lib.ListN.{getD}
-use Rattle.lists.specs.Checks.{check}
+use Rattle.lists.specs.Limits.{memberLimit}
+use Rattle.lists.specs.Checks.{check, refuses}
 use Rattle.lists.specs.Texts.{ascii}
 use Rattle.numbers.specs.Numbers.{labelled}
 use Rattle.print_refusal.specs.Texts.{refusalText}
@@ -37,5 +38,5 @@ requirementsText slip (suc k) = requirementsText slip k ++ requirementText (k + 
 -- what is printed of a sizing, with the slip that it left: "`refused N record P` for 4 to 8, `refused N` else"
 unfoldable pub sizedText : Sized → List ℕ → List ℕ
 sizedText s slip =
-    check (eqb (s .refusal .number) 0) (figuresText s ++ requirementsText slip 64)
-    (refusalText (s .refusal .number) (s .refusal .position))
+    check (refuses (s .refusal .number)) (refusalText (s .refusal .number) (s .refusal .position))
+    (figuresText s ++ requirementsText slip memberLimit)

@@ -1,5 +1,6 @@
 // A sizing's answer as text, from the front of the buffer on. Each function answers how long the text is, or the place after it.
 use buffers::put_text;
+use lists::MEMBER_LIMIT;
 use numbers::as_number;
 use numbers::put_labelled;
 use numbers::put_two;
@@ -45,7 +46,7 @@ fn put_requirements(out: &mut [u8], from: usize, slip: &[u64]) -> usize
 {
     let mut at = from;
     let mut i: usize = 0;
-    while i < 64 {
+    while i < MEMBER_LIMIT {
         let requirement = slip[i];
         at = put_requirement(out, at, as_number(i + 1), requirement);
         i += 1;
@@ -60,7 +61,7 @@ pub fn put_sized(out: &mut [u8], s: Sized, slip: &[u64]) -> usize
     ensures { λ r. ⌜ r ≤ 8192 ⌝ }
 {
     let refusal = s.refusal;
-    if refusal.number != 0 {
+    if 0 < refusal.number {
         return put_refusal(out, 0, wide(refusal.number), as_number(refusal.position));
     }
     let at = put_figures(out, s);

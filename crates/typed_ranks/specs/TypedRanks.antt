@@ -1,10 +1,11 @@
--- "Each `M:R` gives a rank. A member that is named as `M:` with a blank rank has the missing rank 255."
+-- Ranks as they are typed: "each `M:R` gives a rank. A member that is not named, or is named as `M:` with a blank rank, has the missing rank 255"
 use Prim.Native.Nat.{ℕ, suc, _-_}
 use mathlib.Core.Path.{_≡_, refl}
 use mathlib.Core.Bool.{Bool, true, false, _&&_}
 use mathlib.Core.List.{List, [], _∷_}
 use lib.Dec.{eqb, ltb}
 use lib.ListN.{length, getD, drop, set, replicate}
+use Rattle.lists.specs.Limits.{memberLimit}
 use Rattle.lists.specs.Checks.{check}
 use Rattle.lists.specs.Texts.{ascii}
 use Rattle.numbers.specs.Numbers.{readOf}
@@ -21,7 +22,7 @@ rankedOf Number.NotANumber r = Rank.Bad
 rankedOf (Number.Value m) Field.Bad = Rank.Bad
 rankedOf (Number.Value m) (Field.Value r) =
     check (eqb m 0) Rank.Bad
-    (check (ltb 64 m) Rank.Bad
+    (check (ltb memberLimit m) Rank.Bad
     (Rank.Of m r))
 
 -- the member before the first ':', and the rank behind it; a word with no ':' is bad
@@ -31,13 +32,13 @@ rankOf word =
     (rankedOf (readOf (before 58 word)) (byteOf (drop (suc (run (isNot 58) word)) word)))
     Rank.Bad
 
--- "A member that is not named, or is named as `M:` with a blank rank, has the missing rank 255"
+-- a member that is not named has the missing rank
 abbrev pub missingRanks : List ℕ
-missingRanks = replicate 64 255
+missingRanks = replicate memberLimit 255
 
 -- no member is named yet
 abbrev pub unnamed : List ℕ
-unnamed = replicate 64 0
+unnamed = replicate memberLimit 0
 
 -- a rank can be used where it is one and its member is not named yet: "two ranks for one member" are unreadable
 abbrev pub isGood : List ℕ → Rank → Bool

@@ -1,6 +1,7 @@
 // Ranks as they are typed: `M:R`, or `M:` where the rank is missing.
 use cells::Field;
 use cells::read_field;
+use lists::MEMBER_LIMIT;
 use numbers::Number;
 use numbers::read_number;
 use words::find_colon;
@@ -12,6 +13,8 @@ ghost use lib.ListN.{length, drop};
 ghost use Rattle.words.specs.Words.{wordsOf};
 ghost use Rattle.typed_ranks.specs.TypedRanks.{rankedOf, rankOf, missingRanks, isGood, marked, given, allGood, ranksIn};
 ghost use Rattle.typed_ranks.specs.Parts.{RankFits};
+
+const MEMBERS: u64 = MEMBER_LIMIT as u64;
 
 enum Rank {
     Of { member: u64, rank: u64 },
@@ -30,7 +33,7 @@ fn ranked(member: Number, rank: Field) -> Rank
     if m == 0 {
         return Rank::Bad;
     }
-    if 64 < m {
+    if MEMBERS < m {
         return Rank::Bad;
     }
     Rank::Of { member: m, rank: k }
@@ -56,7 +59,7 @@ pub fn clear(ranks: &mut [u8])
     ensures { λ r. ⌜ now (ranks .exit) ≡ missingRanks ⌝ }
 {
     let mut i: usize = 0;
-    while i < 64 {
+    while i < MEMBER_LIMIT {
         ranks[i] = 255;
         i += 1;
     }

@@ -1,4 +1,4 @@
--- "Words are parted by one or more spaces. `#` starts a comment that runs to the end of its line."
+-- "Words are parted by one or more spaces." "`#` starts a comment that runs to the end of its line"
 use Prim.Native.Nat.{ℕ}
 use mathlib.Core.Path.{_≡_, refl}
 use mathlib.Core.Bool.{Bool, true, false, not, _||_}

@@ -1,8 +1,7 @@
 -- `put_sized` meets its contract, by cases.
 use mathlib.Core.Path.{refl}
 use native.Mathlib.Omega.{arith}
-use borrow.Author.Tests.{eq-eqb, ne-eqb}
-use Rattle.lists.proofs.Checks.{check-true, check-false}
+use Rattle.lists.proofs.Checks.{check-lt, check-nlt}
 use Rattle.buffers.proofs.Putting.{put-as, put-then, put-front, put-behind}
 use Rattle.print_sizing.specs.Texts.{sizedText}
 use borrow.Author.Needs.{needs}
@@ -28,7 +27,7 @@ returns c =
     let n = p .before in
     let w = n .before in
     let i = w .before .before in
-    (put-front _ _ (put-as _ _ _ _ (check-false _ _ _ (ne-eqb _ 0 (i .if1 .taken)) (rw (w .wide .ensures, n .as-number .ensures))) (p .put-refusal .ensures .0)), omega arith)
+    (put-front _ _ (put-as _ _ _ _ (check-lt _ _ 0 _ (i .if1 .taken) (rw (w .wide .ensures, n .as-number .ensures))) (p .put-refusal .ensures .0)), omega arith)
 
 put-figures-requires : tie.Need-put-figures-requires
 put-figures-requires c κs = search needs
@@ -45,7 +44,7 @@ returns-2 c =
     let q = c .before .before in
     let p = q .before .before .before .before in
     let i = p .before .before in
-    (put-front _ _ (put-as _ _ _ _ (check-true _ _ _ (eq-eqb _ 0 (i .if1 .left)) refl) (put-then _ _ _ _ (put-behind _ _ (p .put-figures .ensures .0)) (q .put-requirements .ensures .0) (omega arith))), omega arith)
+    (put-front _ _ (put-as _ _ _ _ (check-nlt _ _ 0 _ (i .if1 .left) refl) (put-then _ _ _ _ (put-behind _ _ (p .put-figures .ensures .0)) (q .put-requirements .ensures .0) (omega arith))), omega arith)
 
 pub put-sized-spec : {M : Type 1} → statement M
 put-sized-spec =

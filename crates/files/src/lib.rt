@@ -1,7 +1,8 @@
 // The arguments and the sheet files of the console programs.
 use numbers::Number;
 ghost use lib.ListN.{length};
-ghost use Rattle.files.specs.Files.{Fits64, Within, StepWithin};
+ghost use Rattle.files.specs.Files.{Fits64, Within};
+ghost use Rattle.files.specs.Parts.{StepWithin};
 
 // What came of reading a file: how many bytes there are, or a word on standard error.
 pub enum Sheet {

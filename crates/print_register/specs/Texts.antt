@@ -6,13 +6,14 @@ use Rattle.lists.specs.Limits.{memberLimit}
 use Rattle.lists.specs.Checks.{check}
 use Rattle.lists.specs.Texts.{ascii}
 use Rattle.numbers.specs.Numbers.{labelled}
+use Rattle.waterfall.specs.Register.{absent, inDefault}
 use Rattle.waterfall.specs.View.{figuresOf}
 use Rattle.waterfall.specs.declared.Register.{Register}
 use Rattle.waterfall.specs.declared.view.MemberView.{MemberView}
 
 -- "`default` in place of `live` for a defaulter"
 unfoldable pub statusText : ℕ → List ℕ
-statusText status = check (eqb status 2) (ascii " default") (ascii " live")
+statusText status = check (eqb status inDefault) (ascii " default") (ascii " live")
 
 unfoldable pub nameText : ℕ → ℕ → List ℕ
 nameText member status = labelled (ascii "  member ") member ++ statusText status
@@ -20,7 +21,7 @@ nameText member status = labelled (ascii "  member ") member ++ statusText statu
 -- "for each member of the sheet, in rising order, `  member M live margin A contribution B requirement C cap D outstanding E called F`"
 unfoldable pub memberText : ℕ → MemberView → List ℕ
 memberText member v =
-    check (eqb (v .status) 0) []
+    check (eqb (v .status) absent) []
     (nameText member (v .status)
     ++ labelled (ascii " margin ") (v .margin)
     ++ labelled (ascii " contribution ") (v .contribution)

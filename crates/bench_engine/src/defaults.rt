@@ -26,9 +26,9 @@ fn row(place: u64) -> Row {
     let odd = (place % 64 + 1) * 37;
     Row::Member {
         member: place % 64 + 1,
-        first: 50_000 + odd,
-        second: 1_000_000 + 7 * odd,
-        third: 500_000 + 11 * odd,
+        amount1: 50_000 + odd,
+        amount2: 1_000_000 + 7 * odd,
+        amount3: 500_000 + 11 * odd,
     }
 }
 

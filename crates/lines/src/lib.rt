@@ -31,14 +31,14 @@ enum Pair {
 
 // Two words as numbers, and the place behind them. A word that is not there is no number.
 struct Two {
-    first: Number,
-    second: Number,
+    member: Number,
+    amount: Number,
     end: usize,
 }
 
 fn two_numbers(line: &[u8], from: usize) -> Two
-    ensures { λ r. ⌜ r .first ≡ readOf (firstOf (wordsOf (drop from (now (line .entry))))) ⌝ }
-    ensures { λ r. ⌜ r .second ≡ readOf (firstOf (restOf (wordsOf (drop from (now (line .entry)))))) ⌝ }
+    ensures { λ r. ⌜ r .member ≡ readOf (firstOf (wordsOf (drop from (now (line .entry))))) ⌝ }
+    ensures { λ r. ⌜ r .amount ≡ readOf (firstOf (restOf (wordsOf (drop from (now (line .entry)))))) ⌝ }
     ensures { λ r. ⌜ wordsOf (drop (r .end) (now (line .entry))) ≡ restOf (restOf (wordsOf (drop from (now (line .entry))))) ⌝ }
 {
     let a = next_word(line, from);
@@ -47,11 +47,11 @@ fn two_numbers(line: &[u8], from: usize) -> Two
     let b = next_word(line, a_end);
     let b_start = b.start;
     let b_end = b.end;
-    let first = read_number(part(line, a_start, a_end));
-    let second = read_number(part(line, b_start, b_end));
+    let member = read_number(part(line, a_start, a_end));
+    let amount = read_number(part(line, b_start, b_end));
     Two {
-        first,
-        second,
+        member,
+        amount,
         end: b_end,
     }
 }
@@ -82,13 +82,13 @@ fn made(kind: Pair, m: u64, n: u64) -> DrillCall
     }
 }
 
-fn call_of(kind: Pair, first: Number, second: Number) -> Line
-    ensures { λ r. ⌜ r ≡ callOf (makeOf kind) first second ⌝ }
+fn call_of(kind: Pair, member: Number, amount: Number) -> Line
+    ensures { λ r. ⌜ r ≡ callOf (makeOf kind) member amount ⌝ }
 {
-    let Number::Value(m) = first else {
+    let Number::Value(m) = member else {
         return Line::Unreadable;
     };
-    let Number::Value(n) = second else {
+    let Number::Value(n) = amount else {
         return Line::Unreadable;
     };
     Line::Call(made(kind, m, n))
@@ -101,15 +101,15 @@ fn default_line(line: &[u8], from: usize, ranks: &mut [u8]) -> Line
     ensures { λ r. ⌜ now (ranks .exit) ≡ defaultRanks (wordsOf (drop from (now (line .entry)))) ⌝ }
 {
     let two = two_numbers(line, from);
-    let first = two.first;
-    let second = two.second;
+    let member = two.member;
+    let amount = two.amount;
     let end = two.end;
     let mut named = [0u8; 64];
     if !read_ranks(line, end, ranks, &mut named) {
         clear(ranks);
         return Line::Unreadable;
     }
-    call_of(Pair::Default, first, second)
+    call_of(Pair::Default, member, amount)
 }
 
 // What follows `payment` or `replenishment`.
@@ -117,13 +117,13 @@ fn pair_line(kind: Pair, line: &[u8], from: usize) -> Line
     ensures { λ r. ⌜ r ≡ pairLine (makeOf kind) (wordsOf (drop from (now (line .entry)))) ⌝ }
 {
     let two = two_numbers(line, from);
-    let first = two.first;
-    let second = two.second;
+    let member = two.member;
+    let amount = two.amount;
     let end = two.end;
     if !ends(line, end) {
         return Line::Unreadable;
     }
-    call_of(kind, first, second)
+    call_of(kind, member, amount)
 }
 
 // A line that says the same thing as its first word.

@@ -35,9 +35,9 @@ pub enum Row {
     Bad,
     Member {
         member: u64,
-        first: u64,
-        second: u64,
-        third: u64,
+        amount1: u64,
+        amount2: u64,
+        amount3: u64,
     },
     Stress {
         day: u64,
@@ -81,17 +81,17 @@ fn value(f: Field) -> u64
     }
 }
 
-fn member_row(member: Field, first: Field, second: Field, third: Field) -> Row
-    ensures { λ r. ⌜ r ≡ memberRow member first second third ⌝ }
+fn member_row(member: Field, amount1: Field, amount2: Field, amount3: Field) -> Row
+    ensures { λ r. ⌜ r ≡ memberRow member amount1 amount2 amount3 ⌝ }
 {
-    if is_bad(member) | is_bad(first) | is_bad(second) | is_bad(third) {
+    if is_bad(member) | is_bad(amount1) | is_bad(amount2) | is_bad(amount3) {
         return Row::Bad;
     }
     Row::Member {
         member: value(member),
-        first: value(first),
-        second: value(second),
-        third: value(third),
+        amount1: value(amount1),
+        amount2: value(amount2),
+        amount3: value(amount3),
     }
 }
 
@@ -156,15 +156,22 @@ pub fn row_of_line(kind: Kind, line: &[u8]) -> Row
     }
 }
 
-fn put_member(out: &mut [u8], at: usize, member: u64, first: u64, second: u64, third: u64) -> usize
+fn put_member(
+    out: &mut [u8],
+    at: usize,
+    member: u64,
+    amount1: u64,
+    amount2: u64,
+    amount3: u64,
+) -> usize
     requires { ⌜ at + 16 ≤ length (now out) ⌝ }
-    ensures { λ r. ⌜ (r ≡ at + 16) × (now (out .exit) ≡ written (now (out .entry)) at (bytesOf (Row.Member member first second third))) ⌝ }
+    ensures { λ r. ⌜ (r ≡ at + 16) × (now (out .exit) ≡ written (now (out .entry)) at (bytesOf (Row.Member member amount1 amount2 amount3))) ⌝ }
 {
     let a = put_bytes(out, at, 1, member);
     let b = put_bytes(out, a, 3, 0);
-    let c = put_bytes(out, b, 4, first);
-    let d = put_bytes(out, c, 4, second);
-    put_bytes(out, d, 4, third)
+    let c = put_bytes(out, b, 4, amount1);
+    let d = put_bytes(out, c, 4, amount2);
+    put_bytes(out, d, 4, amount3)
 }
 
 fn put_stress(
@@ -198,10 +205,10 @@ pub fn put_row(out: &mut [u8], at: usize, row: Row) -> usize
         Row::Bad => at,
         Row::Member {
             member,
-            first,
-            second,
-            third,
-        } => put_member(out, at, member, first, second, third),
+            amount1,
+            amount2,
+            amount3,
+        } => put_member(out, at, member, amount1, amount2, amount3),
         Row::Stress {
             day,
             scenario,

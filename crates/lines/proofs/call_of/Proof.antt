@@ -5,8 +5,8 @@ use borrow.Author.Needs.{needs}
 use Rattle.lines.proofs.call_of.Statement.{statement}
 use Rattle.lines.proofs.call_of.Tie as tie
 
-enum-known-first : tie.Need-enum-known-first
-enum-known-first c = search needs
+enum-known-member : tie.Need-enum-known-member
+enum-known-member c = search needs
 
 enum-told : tie.Need-enum-told
 enum-told c = search needs
@@ -14,8 +14,8 @@ enum-told c = search needs
 returns : tie.Need-returns
 returns c = search needs
 
-enum-known-second : tie.Need-enum-known-second
-enum-known-second c = search needs
+enum-known-amount : tie.Need-enum-known-amount
+enum-known-amount c = search needs
 
 enum-told-2 : tie.Need-enum-told-2
 enum-told-2 c = search needs
@@ -29,16 +29,16 @@ made-requires c κs = search needs
 returns-3 : tie.Need-returns-3
 returns-3 c =
     let n = c .before in
-    rw (n .before .before .before .before .first .given .1, n .before .second .given .1) (ap Line.Call (c .made .ensures))
+    rw (n .before .before .before .before .member .given .1, n .before .amount .given .1) (ap Line.Call (c .made .ensures))
 
 pub call-of-spec : {M : Type 1} → statement M
 call-of-spec =
     tie.close
     (tie.spec
-    enum-known-first
+    enum-known-member
     enum-told
     returns
-    enum-known-second
+    enum-known-amount
     enum-told-2
     returns-2
     made-requires

@@ -22,7 +22,7 @@ returns : tie.Need-returns
 returns c =
     let t = c .before in
     let g = t .before .before .before .before .args in
-    check-true _ _ _ (rw (t .before .before .before .is-bad .ensures, t .before .before .is-bad2 .ensures, t .before .is-bad3 .ensures, t .is-bad4 .ensures) at (c .if1 .taken)) refl ∙ member-fields (g .member) (g .first) (g .second) (g .third)
+    check-true _ _ _ (rw (t .before .before .before .is-bad .ensures, t .before .before .is-bad2 .ensures, t .before .is-bad3 .ensures, t .is-bad4 .ensures) at (c .if1 .taken)) refl ∙ member-fields (g .member) (g .amount1) (g .amount2) (g .amount3)
 
 value-requires : tie.Need-value-requires
 value-requires c κs = search needs
@@ -41,7 +41,7 @@ returns-2 c =
     let i = c .before .before .before .before in
     let t = i .before in
     let g = t .before .before .before .before .args in
-    rw (c .before .before .before .value .ensures, c .before .before .value2 .ensures, c .before .value3 .ensures, c .value4 .ensures) (check-false _ _ _ (rw (t .before .before .before .is-bad .ensures, t .before .before .is-bad2 .ensures, t .before .is-bad3 .ensures, t .is-bad4 .ensures) at (i .if1 .left)) refl ∙ member-fields (g .member) (g .first) (g .second) (g .third))
+    rw (c .before .before .before .value .ensures, c .before .before .value2 .ensures, c .before .value3 .ensures, c .value4 .ensures) (check-false _ _ _ (rw (t .before .before .before .is-bad .ensures, t .before .before .is-bad2 .ensures, t .before .is-bad3 .ensures, t .is-bad4 .ensures) at (i .if1 .left)) refl ∙ member-fields (g .member) (g .amount1) (g .amount2) (g .amount3))
 
 pub member-row-spec : {M : Type 1} → statement M
 member-row-spec =

@@ -3,6 +3,7 @@ use libc::STDIN_FILENO;
 use lines::Line;
 use lines::read_line;
 ghost use mathlib.Core.Path.{_≡_};
+ghost use Prim.Native.Nat.{_≤_};
 ghost use lib.ListN.{length};
 
 // How far the input is read: the chunk's bytes from `from` to `have` are still to be taken, `len` bytes of the line are there, and `line` is its number.
@@ -28,14 +29,6 @@ fn next(line: u64) -> u64 {
     line
 }
 
-// The place behind a newline.
-fn behind(at: usize) -> usize {
-    if at < usize::MAX {
-        return at + 1;
-    }
-    at
-}
-
 // What a line says that has `len` bytes in the buffer and ends with the piece. A line that is not cut by a read is read where it stands.
 fn read(line: &mut [u8], len: usize, piece: &[u8], ranks: &mut [u8]) -> Line
     requires { ⌜ length (now ranks) ≡ 64 ⌝ }
@@ -53,6 +46,7 @@ fn read(line: &mut [u8], len: usize, piece: &[u8], ranks: &mut [u8]) -> Line
 // Takes the chunk's bytes up to the next newline.
 fn take_piece(chunk: &[u8], line: &mut [u8], ranks: &mut [u8], p: Progress) -> Taken
     requires { ⌜ length (now ranks) ≡ 64 ⌝ }
+    ensures { λ r. ⌜ r .progress .from ≤ r .progress .have ⌝ }
 {
     let from = p.from;
     let have = p.have;
@@ -75,7 +69,7 @@ fn take_piece(chunk: &[u8], line: &mut [u8], ranks: &mut [u8], p: Progress) -> T
     Taken {
         says,
         progress: Progress {
-            from: behind(to),
+            from: to + 1,
             have,
             len: 0,
             line: next(p.line),
@@ -87,6 +81,7 @@ fn take_piece(chunk: &[u8], line: &mut [u8], ranks: &mut [u8], p: Progress) -> T
 // The input has ended. A last line may have no newline.
 fn end_input(line: &mut [u8], ranks: &mut [u8], p: Progress) -> Taken
     requires { ⌜ length (now ranks) ≡ 64 ⌝ }
+    ensures { λ r. ⌜ r .progress .from ≤ r .progress .have ⌝ }
 {
     let progress = Progress {
         from: 0,
@@ -109,6 +104,7 @@ fn end_input(line: &mut [u8], ranks: &mut [u8], p: Progress) -> Taken
 // Reads what is there.
 fn read_chunk(chunk: &mut [u8], line: &mut [u8], ranks: &mut [u8], p: Progress) -> Taken
     requires { ⌜ length (now ranks) ≡ 64 ⌝ }
+    ensures { λ r. ⌜ r .progress .from ≤ r .progress .have ⌝ }
 {
     let got = libc::read(STDIN_FILENO, chunk);
     if got < 0 {
@@ -130,9 +126,10 @@ fn read_chunk(chunk: &mut [u8], line: &mut [u8], ranks: &mut [u8], p: Progress) 
     }
 }
 
-// A line of the chunk, or another chunk.
+// A line of the chunk, or another chunk. No more is taken of a chunk than it has.
 pub fn take(chunk: &mut [u8], line: &mut [u8], ranks: &mut [u8], p: Progress) -> Taken
     requires { ⌜ length (now ranks) ≡ 64 ⌝ }
+    ensures { λ r. ⌜ r .progress .from ≤ r .progress .have ⌝ }
 {
     let from = p.from;
     let have = p.have;

@@ -3,71 +3,21 @@
 use files::Sheet;
 use input::Progress;
 use libc::STDERR_FILENO;
-use libc::STDOUT_FILENO;
 use lines::Line;
 use numbers::Number;
+use output::make_room;
+use output::put_register;
+use output::put_reply;
+use output::put_unreadable;
 use waterfall::Register;
-use waterfall::Reply;
 ghost use mathlib.Core.Path.{_≡_};
-ghost use Prim.Native.Nat.{_≤_};
 ghost use lib.ListN.{length};
 ghost use Rattle.waterfall.specs.Register.{GivenBack};
 
-// Where no more of the answers are kept than this, there is room for any other.
-const KEPT: usize = 49152;
-
-// How much of the answers is not written yet, and whether the drill goes on.
-struct Kept {
-    used: usize,
-    going: bool,
-}
-
-// Writes the first n bytes.
-fn say(out: &[u8], n: usize) -> bool {
-    if io::write_all(STDOUT_FILENO, words::part(out, 0, n)) {
-        return true;
-    }
-    os::fail(b"standard output");
-    false
-}
-
-// Writes the answers where there may be no room for another, and before the input is read on.
-fn make_room(out: &[u8], used: usize, p: Progress) -> Kept
-    ensures { λ r. ⌜ r .used ≤ 49152 ⌝ }
-{
-    if used <= KEPT {
-        if p.going & (p.from < p.have) {
-            return Kept { used, going: true };
-        }
-    }
-    Kept {
-        used: 0,
-        going: say(out, used) & p.going,
-    }
-}
-
-// Answers behind those that are kept.
-fn put_unreadable(out: &mut [u8], at: usize, number: u64) -> usize
-    requires { ⌜ (at ≤ 49152) × (length (now out) ≡ 65536) ⌝ }
-{
-    at + print_answers::put_unreadable(&mut out[at..], number)
-}
-
-fn put_register(out: &mut [u8], at: usize, register: Register) -> usize
-    requires { ⌜ (at ≤ 49152) × (length (now out) ≡ 65536) ⌝ }
-{
-    at + print_register::put_register(&mut out[at..], register)
-}
-
-fn put_reply(out: &mut [u8], at: usize, reply: Reply, slip: &[u64]) -> usize
-    requires { ⌜ (at ≤ 49152) × (length (now out) ≡ 65536) × (length (now slip) ≡ 128) ⌝ }
-{
-    at + print_answers::put_reply(&mut out[at..], reply, slip)
-}
-
-// The turns are counted down from a number that no run uses up.
+// Answers the lines, behind the answers that are kept. The turns are counted down from a number that no run uses up.
 fn drill(
     first: Register,
+    opening: usize,
     chunk: &mut [u8],
     line: &mut [u8],
     ranks: &mut [u8],
@@ -85,7 +35,7 @@ fn drill(
         line: 1,
         going: true,
     };
-    let mut used: usize = 0;
+    let mut used = opening;
     let mut turns = u64::MAX;
     while turns > 0 {
         let kept = make_room(out, used, p);
@@ -124,16 +74,15 @@ fn run(sheet: &[u8], own: u64) {
     let mut slip = [0u64; 128];
     let mut out = [0u8; 65536];
     let n = print_refusal::put_opening(&mut out, refusal);
-    if say(&out, n) {
-        drill(
-            register,
-            &mut chunk,
-            &mut line,
-            &mut ranks,
-            &mut slip,
-            &mut out,
-        );
-    }
+    drill(
+        register,
+        n,
+        &mut chunk,
+        &mut line,
+        &mut ranks,
+        &mut slip,
+        &mut out,
+    );
 }
 
 fn usage() {

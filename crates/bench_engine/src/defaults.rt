@@ -1,7 +1,7 @@
 // Repeated defaults of member 17 of one register of 64 members.
 use crate::fold::fold;
-use text::Row;
-use text::put_row;
+use rows::Row;
+use rows::put_row;
 use waterfall::Allocation;
 use waterfall::Outcome;
 use waterfall::Register;
@@ -26,9 +26,9 @@ fn row(place: u64) -> Row {
     let odd = (place % 64 + 1) * 37;
     Row::Member {
         member: place % 64 + 1,
-        first: 50_000 + odd,
-        second: 1_000_000 + 7 * odd,
-        third: 500_000 + 11 * odd,
+        amount1: 50_000 + odd,
+        amount2: 1_000_000 + 7 * odd,
+        amount3: 500_000 + 11 * odd,
     }
 }
 

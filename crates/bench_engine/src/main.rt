@@ -7,7 +7,7 @@ mod sizings;
 
 use libc::STDERR_FILENO;
 use libc::STDOUT_FILENO;
-use text::Number;
+use numbers::Number;
 
 fn usage() {
     io::write_all(
@@ -34,11 +34,11 @@ fn run_default(case: &[u8], turns: u64) {
         usage();
         return;
     }
-    if text::same(case, b"distinct") {
+    if words::same(case, b"distinct") {
         say(defaults::distinct(turns));
-    } else if text::same(case, b"tied") {
+    } else if words::same(case, b"tied") {
         say(defaults::tied(turns));
-    } else if text::same(case, b"calls") {
+    } else if words::same(case, b"calls") {
         say(defaults::calls(turns));
     } else {
         usage();
@@ -46,7 +46,7 @@ fn run_default(case: &[u8], turns: u64) {
 }
 
 fn run(case: &[u8], turns: u64) {
-    if text::same(case, b"sizing") {
+    if words::same(case, b"sizing") {
         run_sizing(turns);
     } else {
         run_default(case, turns);
@@ -60,7 +60,7 @@ fn repetitions() -> Number {
     if os::errno() != 0 {
         return Number::NotANumber;
     }
-    text::read_number(&word[..n])
+    numbers::read_number(&word[..n])
 }
 
 fn main() {

@@ -58,5 +58,9 @@ pub fn run(turns: u64) -> u64 {
     let mut shares = [0u8; 1040];
     let n = read(3, &mut stress);
     let m = read(4, &mut shares);
-    repeat_accepted(turns, text::part(&stress, 0, n), text::part(&shares, 0, m))
+    repeat_accepted(
+        turns,
+        words::part(&stress, 0, n),
+        words::part(&shares, 0, m),
+    )
 }

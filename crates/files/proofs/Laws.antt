@@ -6,10 +6,11 @@ use mathlib.Core.List.{List}
 use borrow.Author.Tests.{ltb-true}
 use lib.Dec.{ltb}
 use Rattle.lists.proofs.Checks.{check-by, both}
-use Rattle.text.specs.Numbers.{readOf, isEmpty, allDigits, isNumber, valueFrom}
-use Rattle.text.specs.declared.numbers.Number.{Number}
+use Rattle.numbers.specs.Numbers.{readOf, isEmpty, allDigits, isNumber, valueFrom}
+use Rattle.numbers.specs.declared.Number.{Number}
 use Rattle.files.specs.declared.Step.{Step}
-use Rattle.files.specs.Files.{Fits64, StepWithin}
+use Rattle.files.specs.Files.{Fits64}
+use Rattle.files.specs.Parts.{StepWithin}
 
 -- a number that was read fits 64 bits
 read-fits : (s : List ℕ) → Fits64 (readOf s)

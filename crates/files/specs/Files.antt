@@ -1,8 +1,7 @@
 -- What a caller may count on. No contract can say what an argument or a file holds.
 use Prim.Native.Nat.{ℕ, _^_, _≤_, _<_}
-use Rattle.text.specs.declared.numbers.Number.{Number}
+use Rattle.numbers.specs.declared.Number.{Number}
 use Rattle.files.specs.declared.Sheet.{Sheet}
-use Rattle.files.specs.declared.Step.{Step}
 
 -- "A number that does not fit 64 bits is not a number."
 abbrev pub Fits64 : Number → Type 0
@@ -13,8 +12,3 @@ Fits64 Number.NotANumber = Unit {0}
 abbrev pub Within : ℕ → Sheet → Type 0
 Within room (Sheet.Read n) = n ≤ room
 Within room Sheet.Failed = Unit {0}
-
-abbrev pub StepWithin : ℕ → Step → Type 0
-StepWithin room (Step.More n) = n ≤ room
-StepWithin room Step.Ended = Unit {0}
-StepWithin room Step.Failed = Unit {0}

@@ -1,7 +1,8 @@
 // The arguments and the sheet files of the console programs.
-use text::Number;
+use numbers::Number;
 ghost use lib.ListN.{length};
-ghost use Rattle.files.specs.Files.{Fits64, Within, StepWithin};
+ghost use Rattle.files.specs.Files.{Fits64, Within};
+ghost use Rattle.files.specs.Parts.{StepWithin};
 
 // What came of reading a file: how many bytes there are, or a word on standard error.
 pub enum Sheet {
@@ -25,7 +26,7 @@ pub fn number_at(i: usize) -> Number
     if os::errno() != 0 {
         return Number::NotANumber;
     }
-    text::read_number(&word[..n])
+    numbers::read_number(&word[..n])
 }
 
 // One read behind the bytes that are there.

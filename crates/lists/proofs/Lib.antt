@@ -5,3 +5,4 @@ pub mod Tests
 pub mod Highest
 pub mod Fill
 pub mod Places
+pub mod Cases

@@ -4,9 +4,9 @@
 use libc::STDERR_FILENO;
 use libc::STDIN_FILENO;
 use libc::STDOUT_FILENO;
-use text::Kind;
-use text::Named;
-use text::Row;
+use rows::Kind;
+use rows::Named;
+use rows::Row;
 
 // How far the input is read: bytes of the line so far, bytes of the sheet, and the line's number.
 struct Progress {
@@ -58,7 +58,7 @@ fn add(sheet: &mut [u8], used: usize, row: Row) -> usize {
     if room - used < 16 {
         return used;
     }
-    text::put_row(sheet, used, row)
+    rows::put_row(sheet, used, row)
 }
 
 // The line is whole.
@@ -67,7 +67,7 @@ fn end_line(kind: Kind, line: &[u8], sheet: &mut [u8], p: Progress) -> Progress 
     if line.len() < len {
         return stopped(p, Status::BadLine);
     }
-    let row = text::row_of_line(kind, text::part(line, 0, len));
+    let row = rows::row_of_line(kind, words::part(line, 0, len));
     if let Row::Bad = row {
         return stopped(p, Status::BadLine);
     }
@@ -90,7 +90,7 @@ fn take_piece(
     sheet: &mut [u8],
     p: Progress,
 ) -> Progress {
-    let len = text::append(line, p.len, text::part(chunk, from, to));
+    let len = buffers::append(line, p.len, words::part(chunk, from, to));
     let q = Progress {
         len,
         used: p.used,
@@ -117,7 +117,7 @@ fn take_chunk(
         if !is_reading(status) {
             return p;
         }
-        let to = text::find_newline(chunk, from, chunk.len());
+        let to = words::find_newline(chunk, from, chunk.len());
         let q = take_piece(kind, chunk, from, to, line, sheet, p);
         p = q;
         from = to + 1;
@@ -193,7 +193,7 @@ fn finish(p: Progress, sheet: &[u8]) {
         Status::Reading => {}
         Status::Failed => {}
         Status::BadLine => say_line(p.line),
-        Status::Ended => write_sheet(text::part(sheet, 0, used)),
+        Status::Ended => write_sheet(words::part(sheet, 0, used)),
     }
 }
 
@@ -219,7 +219,7 @@ fn main() {
         usage();
         return;
     }
-    match text::kind_named(&word[..n]) {
+    match rows::kind_named(&word[..n]) {
         Named::Known(kind) => make(kind),
         Named::Unknown => usage(),
     }

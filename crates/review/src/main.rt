@@ -1,7 +1,7 @@
 // Says whether a review is due: whether 100C is more than 80A.
 use libc::STDERR_FILENO;
 use libc::STDOUT_FILENO;
-use text::Number;
+use numbers::Number;
 
 fn usage() {
     io::write_all(STDERR_FILENO, b"usage: review C A\n");

@@ -2,11 +2,11 @@
 use files::Sheet;
 use libc::STDERR_FILENO;
 use libc::STDOUT_FILENO;
-use text::Number;
+use numbers::Number;
 
 // Writes the first n bytes.
 fn say(out: &[u8], n: usize) {
-    if !io::write_all(STDOUT_FILENO, text::part(out, 0, n)) {
+    if !io::write_all(STDOUT_FILENO, words::part(out, 0, n)) {
         os::fail(b"standard output");
     }
 }
@@ -15,7 +15,7 @@ fn run(stress: &[u8], shares: &[u8], prevailing: u64, available: u64) {
     let mut slip = [0u64; 64];
     let sized = sizing::size(stress, shares, prevailing, available, &mut slip);
     let mut out = [0u8; 8192];
-    let n = console::put_sized(&mut out, sized, &slip);
+    let n = print_sizing::put_sized(&mut out, sized, &slip);
     say(&out, n);
 }
 
@@ -33,8 +33,8 @@ fn read_and_run(prevailing: u64, available: u64) {
         return;
     };
     run(
-        text::part(&stress, 0, n),
-        text::part(&shares, 0, m),
+        words::part(&stress, 0, n),
+        words::part(&shares, 0, m),
         prevailing,
         available,
     );

@@ -9,10 +9,10 @@ use Rattle.run_drill.proofs.drill.Statement.{statement}
 use Rattle.run_drill.proofs.drill.Tie as tie
 
 abbrev Inv-loop : tie.InvT-loop
-Inv-loop chunk₀ line₀ ranks₀ slip₀ out₀ register₀ p₀ used₀ turns₀ chunk line ranks slip out register p used turns = GivenBack register × (length chunk ≡ length chunk₀) × (length line ≡ length line₀) × (length ranks ≡ length ranks₀) × (length slip ≡ length slip₀) × (length out ≡ length out₀)
+Inv-loop opening chunk₀ line₀ ranks₀ slip₀ out₀ register₀ p₀ used₀ turns₀ chunk line ranks slip out register p used turns = GivenBack register × (length chunk ≡ length chunk₀) × (length line ≡ length line₀) × (length ranks ≡ length ranks₀) × (length slip ≡ length slip₀) × (length out ≡ length out₀)
 
 abbrev μ-loop : tie.MeasureT-loop
-μ-loop chunk₀ line₀ ranks₀ slip₀ out₀ register₀ p₀ used₀ turns₀ chunk line ranks slip out register p used turns = turns
+μ-loop opening chunk₀ line₀ ranks₀ slip₀ out₀ register₀ p₀ used₀ turns₀ chunk line ranks slip out register p used turns = turns
 
 loop-holds : tie.Need-loop-holds Inv-loop μ-loop
 loop-holds c = search needs
@@ -48,13 +48,25 @@ enum-told-2 : tie.Need-enum-told-2 Inv-loop μ-loop
 enum-told-2 c = search needs
 
 put-unreadable-requires : tie.Need-put-unreadable-requires Inv-loop μ-loop
-put-unreadable-requires c κs = search needs
+put-unreadable-requires c κs =
+    let m = c .before .before .before .before .before .before .before .before .before .before .before .before .before .before .before .before in
+    let l = m .before .before .before in
+    let i = l .loop .inv in
+    let p = l .before .before .before .before .before .before .pre in
+    let k = m .make-room .ensures in
+    search needs
 
 enum-told-3 : tie.Need-enum-told-3 Inv-loop μ-loop
 enum-told-3 c = search needs
 
 put-register-requires : tie.Need-put-register-requires Inv-loop μ-loop
-put-register-requires c κs = search needs
+put-register-requires c κs =
+    let m = c .before .before .before .before .before .before .before .before .before .before .before .before .before .before .before .before in
+    let l = m .before .before .before in
+    let i = l .loop .inv in
+    let p = l .before .before .before .before .before .before .pre in
+    let k = m .make-room .ensures in
+    search needs
 
 enum-known-says : tie.Need-enum-known-says Inv-loop μ-loop
 enum-known-says c = search needs

@@ -1,0 +1,34 @@
+-- Tests joined, a fact by cases, and a list by its next number.
+use Prim.Native.Nat.{ℕ, _+_, _≤_, _<_}
+use mathlib.Core.Path.{_≡_, refl}
+use mathlib.Core.Bool.{Bool, true, false, not, _&&_, _||_}
+use mathlib.Core.List.{List, _∷_}
+use native.Mathlib.Numerals.{add-one}
+use native.Mathlib.Omega.{arith}
+use borrow.Author.Tests.{leb-true, leb-false}
+use lib.Dec.{leb}
+use lib.ListN.{length, getD, drop}
+use lib.Seq.{drop-cons}
+
+pub and-false : (a : Bool) → (a && false) ≡ false
+and-false true = refl
+and-false false = refl
+
+pub not-or : (a b : Bool) → (not a && not b) ≡ not (a || b)
+not-or true b = refl
+not-or false b = refl
+
+pub never : {X : Type 0} → false ≡ true → X
+never h = let z : _≡_ {A = ℕ} 0 1 = cc in absurd (omega arith)
+
+-- a fact that holds either way
+pub by-le : {P : Type 0} (m n : ℕ) → (m ≤ n → P) → (n < m → P) → P
+by-le {P} m n f g = go (leb m n) refl
+  where
+    go : (t : Bool) → leb m n ≡ t → P
+    go true e = f (leb-true m n e)
+    go false e = g (leb-false m n e)
+
+-- what is left from a place on, by its first number
+pub drop-next : (s : List ℕ) (i : ℕ) → i < length s → drop i s ≡ getD s i 0 ∷ drop (i + 1) s
+drop-next s i h = rw (add-one, drop-cons s i 0)

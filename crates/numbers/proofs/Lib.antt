@@ -1,0 +1,4 @@
+-- The laws that the proofs cite.
+pub mod Reading
+pub mod Decimal
+pub mod Theorems

@@ -1,0 +1,4 @@
+-- The definitions that the contracts cite.
+pub mod Bytes
+pub mod Words
+pub mod Parts

@@ -1,5 +1,6 @@
 // "The console keeps one register through the whole drill": document 01's register of four members stands in one place, and each call takes it by `&mut`.
 use drill::in_place::close;
+use drill::in_place::declare;
 use drill::in_place::pay;
 use drill::in_place::replenish;
 use libc::STDOUT_FILENO;
@@ -49,13 +50,12 @@ fn show(register: Register, number: u64) {
 }
 
 // Proved by hand: a function that lends a register is not covered by the borrow checker's own walk.
-fn calls(mut register: Register)
+fn calls(mut register: Register, loss: u64, ranks: &[u8], slip: &mut [u64])
     requires { ⌜ GivenBack register ⌝ }
 {
-    tell(pay(&mut register, 2, 151));
-    tell(pay(&mut register, 2, 150));
-    tell(close(&mut register));
-    tell(pay(&mut register, 3, 50));
+    tell(declare(&mut register, 1, loss, ranks, slip));
+    tell(pay(&mut register, 3, 2));
+    tell(pay(&mut register, 3, 1));
     tell(replenish(&mut register, 2, 100));
     tell(close(&mut register));
     show(register, 2);
@@ -70,8 +70,5 @@ fn main() {
     ranks[2] = 2;
     ranks[3] = 2;
     let mut slip = [0u64; 128];
-    let outcome = waterfall::declaration::declare(opened.register, 1, 152_200, &ranks, &mut slip);
-    let reply = outcome.reply;
-    tell(reply);
-    calls(outcome.register);
+    calls(opened.register, 152_001, &ranks, &mut slip);
 }

@@ -10,7 +10,7 @@
 bool review_due(uint64_t cover, uint64_t target);
 
 /* The refusal number of a register sheet with our own contribution, in thousands of rupees; 0 if accepted.
-   `sheet` must not be null, where `length` is 0 either. */
+   An empty sheet is refused with 1: where `length` is 0 nothing is read, and `sheet` may be null. */
 uint8_t register_refusal(const uint8_t *sheet, size_t length, uint64_t own);
 
 #endif

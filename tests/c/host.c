@@ -56,6 +56,8 @@ static void size(void) {
     uint8_t s[1040];
     for (unsigned i = 0; i < 65; i++) put(s + 16 * i, (uint8_t)(i + 1), 0, 10000, 0);
     same("empty", register_refusal(s, 0, 0), 1);
+    same("null", register_refusal(NULL, 0, 0), 1);
+    same("null, and 2 would apply", register_refusal(NULL, 0, SUM + 1), 1);
     same("one record", register_refusal(s, 16, 0), 0);
     same("cut", register_refusal(s, 31, 0), 1);
     same("64 records", register_refusal(s, 1024, 0), 0);

@@ -11,7 +11,8 @@ pub extern "C" fn review_due(cover: u64, target: u64) -> bool
     sizing::review_due(cover, target)
 }
 
-// "For a register sheet and G it is given the refusal number alone, 0 if accepted."
+// "For a register sheet and G it is given the refusal number alone, 0 if accepted." An empty sheet is refused with 1 before a byte of it is read: C may
+// hand over a null with length 0.
 #[no_mangle]
 pub extern "C" fn register_refusal(sheet: &[u8], own: u64) -> u8
     ensures { λ r. ⌜ r ≡ openedOf (now (sheet .entry)) own .refusal .number ⌝ }

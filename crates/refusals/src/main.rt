@@ -1,5 +1,17 @@
 // Every refusal of sizing and of the drill calls, obtained from compiled code, also where two apply: a test that prints each number and position.
-// `rt ci` holds what it prints to the file stdout, which was written from document 01.
+// The cases are the lines of the file stdin; `rt ci` holds what is printed to the file stdout, which was written from document 01. A line has
+// a label, what is called, the numbers that it is called with, and bytes in hexadecimal:
+//
+//     LABEL: size P V SLIP / STRESS SHEET | SHARES SHEET    the slip has SLIP numbers
+//     LABEL: open G / REGISTER SHEET
+//     LABEL: default MEMBER LOSS COUNT SLIP / RANKS         COUNT ranks are handed over, 255 where RANKS says nothing
+//     LABEL: payment MEMBER AMOUNT
+//     LABEL: replenishment MEMBER AMOUNT
+//     LABEL: close
+//
+// A line without a label prints nothing: it makes the register that the calls below it are tried on. A call with a label hands nothing on. A refusal
+// that altered a slip or a register is told, and so is a refused opening that handed back a member or a tranche.
+use libc::STDIN_FILENO;
 use libc::STDOUT_FILENO;
 use waterfall::Outcome;
 use waterfall::Register;
@@ -9,21 +21,164 @@ use waterfall::declaration::declare;
 use waterfall::payment::pay;
 use waterfall::replenishment::replenish;
 use waterfall::sheet::open;
+use waterfall::view::MemberView;
+use waterfall::view::member;
+use waterfall::view::tranches;
+ghost use mathlib.Core.Path.{_≡_};
+ghost use Prim.Native.Nat.{_≤_};
+ghost use lib.ListN.{length};
 ghost use Rattle.waterfall.specs.Register.{GivenBack};
 
-fn say(label: &[u8], number: u64, position: u64) {
-    io::write_all(STDOUT_FILENO, label);
-    io::write_all(STDOUT_FILENO, b": ");
-    io::print_decimal(STDOUT_FILENO, number);
-    io::write_all(STDOUT_FILENO, b" ");
-    io::print_decimal(STDOUT_FILENO, position);
-    io::write_all(STDOUT_FILENO, b"\n");
+// Where the byte first stands, the length where it does not.
+fn find(s: &[u8], byte: u8) -> usize
+    ensures { λ r. ⌜ r ≤ length (now (s .entry)) ⌝ }
+{
+    let mut i = 0;
+    while i < s.len() {
+        if s[i] == byte {
+            return i;
+        }
+        i += 1;
+    }
+    i
+}
+
+fn before(s: &[u8], byte: u8) -> &[u8]
+    ensures { λ r. ⌜ length (now r) ≤ length (now (s .entry)) ⌝ }
+{
+    let at = find(s, byte);
+    &s[0..at]
+}
+
+// From the byte on.
+fn from(s: &[u8], byte: u8) -> &[u8] {
+    let at = find(s, byte);
+    &s[at..]
+}
+
+// One digit more.
+fn grown(value: u64, byte: u8) -> u64 {
+    let digit = match byte {
+        b'0'..=b'9' => (byte - b'0') as u64,
+        _ => {
+            return value;
+        }
+    };
+    if value <= (u64::MAX - digit) / 10 {
+        return value * 10 + digit;
+    }
+    value
+}
+
+// The numbers behind the first five spaces, each at its place from 1 on; a word there is 0.
+fn numbers(words: &[u8]) -> [u64; 6] {
+    let mut out = [0u64; 6];
+    let mut at = 0;
+    let mut i = 0;
+    while i < words.len() {
+        if words[i] == b' ' {
+            at += 1;
+        }
+        if 6 <= at {
+            return out;
+        }
+        out[at] = grown(out[at], words[i]);
+        i += 1;
+    }
+    out
+}
+
+// How many numbers or bytes of a buffer are handed over.
+fn least(count: u64, room: usize) -> usize
+    ensures { λ r. ⌜ r ≤ room ⌝ }
+{
+    if count < room as u64 {
+        return count as usize;
+    }
+    room
+}
+
+// The numbers of a line, of which the third and the fourth count what is handed over.
+struct Given {
+    first: u64,
+    second: u64,
+    third: usize,
+    fourth: usize,
+}
+
+fn figures(words: &[u8]) -> Given
+    ensures { λ r. ⌜ (r .third ≤ 96) × (r .fourth ≤ 130) ⌝ }
+{
+    let n = numbers(words);
+    Given {
+        first: n[2],
+        second: n[3],
+        third: least(n[4], 96),
+        fourth: least(n[5], 130),
+    }
+}
+
+// The value of a hexadecimal digit, 16 for any other byte.
+fn digit(byte: u8) -> u8
+    ensures { λ r. ⌜ r ≤ 16 ⌝ }
+{
+    match byte {
+        b'0'..=b'9' => byte - b'0',
+        b'a'..=b'f' => byte - b'a' + 10,
+        _ => 16,
+    }
+}
+
+// A sheet, or ranks, in a buffer.
+struct Buffer {
+    list: [u8; 96],
+    count: usize,
+}
+
+// The bytes that pairs of hexadecimal digits say; `blank` behind them.
+fn bytes(digits: &[u8], blank: u8) -> Buffer
+    ensures { λ r. ⌜ (r .count ≤ 96) × (length (r .list) ≡ 96) ⌝ }
+{
+    let mut list = [blank; 96];
+    let mut taken = 0;
+    let mut i = 0;
+    while i < digits.len() {
+        if 192 <= taken {
+            return Buffer { list, count: 96 };
+        }
+        let d = digit(digits[i]);
+        if d < 16 {
+            let at = taken / 2;
+            list[at] = list[at] % 16 * 16 + d;
+            taken += 1;
+        }
+        i += 1;
+    }
+    Buffer {
+        list,
+        count: taken / 2,
+    }
+}
+
+// Says what was answered, and where a refusal altered what it was lent.
+fn say(label: &[u8], number: u64, position: u64, kept: bool) {
+    if 0 < label.len() {
+        io::write_all(STDOUT_FILENO, label);
+        io::write_all(STDOUT_FILENO, b": ");
+        io::print_decimal(STDOUT_FILENO, number);
+        io::write_all(STDOUT_FILENO, b" ");
+        io::print_decimal(STDOUT_FILENO, position);
+        io::write_all(STDOUT_FILENO, b"\n");
+    }
+    if (0 < number) & !kept {
+        io::write_all(STDOUT_FILENO, b"a refusal altered a slip or a register\n");
+    }
 }
 
 // Whether every number of the slip is 7, as it was lent.
-fn untouched(slip: &[u64]) -> bool {
+fn untouched(slip: &[u64; 130]) -> bool {
     let mut i = 0;
-    while i < slip.len() {
+    while i < 130 {
         if slip[i] != 7 {
             return false;
         }
@@ -32,358 +187,70 @@ fn untouched(slip: &[u64]) -> bool {
     true
 }
 
-// A refusal that altered the slip is told.
-fn tell(label: &[u8], number: u64, position: u64, slip: &[u64]) {
-    say(label, number, position);
-    if (0 < number) & !untouched(slip) {
-        io::write_all(STDOUT_FILENO, b"the slip was altered\n");
+fn same_member(a: MemberView, b: MemberView) -> bool {
+    (a.status == b.status)
+        & (a.margin == b.margin)
+        & (a.contribution == b.contribution)
+        & (a.requirement == b.requirement)
+        & (a.cap == b.cap)
+        & (a.outstanding == b.outstanding)
+        & (a.called == b.called)
+}
+
+// Whether two registers show a host the same.
+fn same(a: Register, b: Register) -> bool {
+    let mut m = 1;
+    while m <= 64 {
+        if !same_member(member(a, m), member(b, m)) {
+            return false;
+        }
+        m += 1;
     }
+    let x = tranches(a);
+    let y = tranches(b);
+    (x.first == y.first) & (x.second == y.second)
 }
 
-fn size(
-    label: &[u8],
-    stress: &[u8],
-    shares: &[u8],
-    prevailing: u64,
-    available: u64,
-    slip: &mut [u64],
-) {
-    let sized = sizing::size(stress, shares, prevailing, available, slip);
-    let position = sized.refusal.position as u64;
-    tell(label, sized.refusal.number as u64, position, slip);
-}
-
-fn sizings1() {
-    let mut slip = [7u64; 64];
-    size(
-        b"accepted",
-        b"\x01\x00\x01\x00\x01\x00\x00\x00\x64\x00\x00\x00\x00\x00\x00\x00",
-        b"\x01\x00\x00\x00\x01\x00\x00\x00\x01\x00\x00\x00\x01\x00\x00\x00",
-        0,
-        0,
-        &mut slip,
+fn size(label: &[u8], n: Given, sheets: &[u8])
+    requires { ⌜ n .third ≤ 96 ⌝ }
+{
+    let first = bytes(before(sheets, b'|'), 0);
+    let to = first.count;
+    let stress = first.list;
+    let second = bytes(from(sheets, b'|'), 0);
+    let end = second.count;
+    let shares = second.list;
+    let mut slip = [7u64; 130];
+    let lent = n.third;
+    let sized = sizing::size(
+        &stress[0..to],
+        &shares[0..end],
+        n.first,
+        n.second,
+        &mut slip[0..lent],
     );
-    let mut slip = [7u64; 64];
-    size(
-        b"1 stress sheet empty",
-        b"",
-        b"\x01\x00\x00\x00\x01\x00\x00\x00\x01\x00\x00\x00\x01\x00\x00\x00",
-        0,
-        0,
-        &mut slip,
-    );
-    let mut slip = [7u64; 64];
-    size(
-        b"1 shares sheet cut",
-        b"\x01\x00\x01\x00\x01\x00\x00\x00\x64\x00\x00\x00\x00\x00\x00\x00",
-        b"\x01\x00\x00\x00\x01\x00\x00\x00\x01\x00\x00\x00\x01\x00\x00",
-        0,
-        0,
-        &mut slip,
-    );
-    let mut slip = [7u64; 64];
-    size(
-        b"1 before 2 and 3",
-        b"\x01\x00\x01\x00\x01\x00\x00\x00\x64\x00\x00\x00\x00\x00\x00\x00",
-        b"",
-        25600000001,
-        0,
-        &mut slip[..0],
-    );
-    let mut slip = [7u64; 64];
-    size(
-        b"2 prevailing minimum",
-        b"\x01\x00\x01\x00\x01\x00\x00\x00\x64\x00\x00\x00\x00\x00\x00\x00",
-        b"\x01\x00\x00\x00\x01\x00\x00\x00\x01\x00\x00\x00\x01\x00\x00\x00",
-        25600000001,
-        0,
-        &mut slip,
-    );
-    let mut slip = [7u64; 64];
-    size(
-        b"2 own money available",
-        b"\x01\x00\x01\x00\x01\x00\x00\x00\x64\x00\x00\x00\x00\x00\x00\x00",
-        b"\x01\x00\x00\x00\x01\x00\x00\x00\x01\x00\x00\x00\x01\x00\x00\x00",
-        0,
-        25600000001,
-        &mut slip,
+    let number = sized.refusal.number as u64;
+    say(
+        label,
+        number,
+        sized.refusal.position as u64,
+        untouched(&slip),
     );
 }
 
-fn sizings2() {
-    let mut slip = [7u64; 64];
-    size(
-        b"2 before 3",
-        b"\x01\x00\x01\x00\x01\x00\x00\x00\x64\x00\x00\x00\x00\x00\x00\x00",
-        b"\x01\x00\x00\x00\x01\x00\x00\x00\x01\x00\x00\x00\x01\x00\x00\x00",
-        25600000001,
-        0,
-        &mut slip[..63],
-    );
-    let mut slip = [7u64; 64];
-    size(
-        b"3 slip of 63 numbers",
-        b"\x01\x00\x01\x00\x01\x00\x00\x00\x64\x00\x00\x00\x00\x00\x00\x00",
-        b"\x01\x00\x00\x00\x01\x00\x00\x00\x01\x00\x00\x00\x01\x00\x00\x00",
-        0,
-        0,
-        &mut slip[..63],
-    );
-    let mut slip = [7u64; 64];
-    size(
-        b"3 before 4",
-        b"\x00\x00\x01\x00\x01\x00\x00\x00\x64\x00\x00\x00\x00\x00\x00\x00",
-        b"\x01\x00\x00\x00\x01\x00\x00\x00\x01\x00\x00\x00\x01\x00\x00\x00",
-        0,
-        0,
-        &mut slip[..63],
-    );
-    let mut slip = [7u64; 64];
-    size(
-        b"4 day 0",
-        b"\x00\x00\x01\x00\x01\x00\x00\x00\x64\x00\x00\x00\x00\x00\x00\x00",
-        b"\x01\x00\x00\x00\x01\x00\x00\x00\x01\x00\x00\x00\x01\x00\x00\x00",
-        0,
-        0,
-        &mut slip,
-    );
-    let mut slip = [7u64; 64];
-    size(
-        b"4 day 185",
-        b"\xb9\x00\x01\x00\x01\x00\x00\x00\x64\x00\x00\x00\x00\x00\x00\x00",
-        b"\x01\x00\x00\x00\x01\x00\x00\x00\x01\x00\x00\x00\x01\x00\x00\x00",
-        0,
-        0,
-        &mut slip,
-    );
-    let mut slip = [7u64; 64];
-    size(
-        b"4 scenario 65",
-        b"\x01\x00\x41\x00\x01\x00\x00\x00\x64\x00\x00\x00\x00\x00\x00\x00",
-        b"\x01\x00\x00\x00\x01\x00\x00\x00\x01\x00\x00\x00\x01\x00\x00\x00",
-        0,
-        0,
-        &mut slip,
-    );
-}
-
-fn sizings3() {
-    let mut slip = [7u64; 64];
-    size(
-        b"4 member 65",
-        b"\x01\x00\x01\x00\x41\x00\x00\x00\x64\x00\x00\x00\x00\x00\x00\x00",
-        b"\x01\x00\x00\x00\x01\x00\x00\x00\x01\x00\x00\x00\x01\x00\x00\x00",
-        0,
-        0,
-        &mut slip,
-    );
-    let mut slip = [7u64; 64];
-    size(
-        b"4 flag 2",
-        b"\x01\x00\x01\x00\x01\x02\x00\x00\x64\x00\x00\x00\x00\x00\x00\x00",
-        b"\x01\x00\x00\x00\x01\x00\x00\x00\x01\x00\x00\x00\x01\x00\x00\x00",
-        0,
-        0,
-        &mut slip,
-    );
-    let mut slip = [7u64; 64];
-    size(
-        b"4 a byte that is not zero",
-        b"\x01\x00\x01\x00\x01\x00\x00\x00\x64\x00\x00\x00\x00\x00\x00\x01",
-        b"\x01\x00\x00\x00\x01\x00\x00\x00\x01\x00\x00\x00\x01\x00\x00\x00",
-        0,
-        0,
-        &mut slip,
-    );
-    let mut slip = [7u64; 64];
-    size(
-        b"4 before 5",
-        b"\x01\x00\x01\x00\x01\x02\x00\x00\xff\xff\xff\xff\x00\x00\x00\x00",
-        b"\x01\x00\x00\x00\x01\x00\x00\x00\x01\x00\x00\x00\x01\x00\x00\x00",
-        0,
-        0,
-        &mut slip,
-    );
-    let mut slip = [7u64; 64];
-    size(
-        b"4 stress before shares",
-        b"\x01\x00\x01\x00\x01\x00\x00\x00\x64\x00\x00\x00\x00\x00\x00\x00\x01\x00\x01\x00\x41\x00\x00\x00\x01\x00\x00\x00\x00\x00\x00\x00",
-        b"\x00\x00\x00\x00\x01\x00\x00\x00\x01\x00\x00\x00\x01\x00\x00\x00",
-        0,
-        0,
-        &mut slip,
-    );
-    let mut slip = [7u64; 64];
-    size(
-        b"4 shares, record 1",
-        b"\x01\x00\x01\x00\x01\x00\x00\x00\x64\x00\x00\x00\x00\x00\x00\x00",
-        b"\x00\x00\x00\x00\x01\x00\x00\x00\x01\x00\x00\x00\x01\x00\x00\x00",
-        0,
-        0,
-        &mut slip,
-    );
-}
-
-fn sizings4() {
-    let mut slip = [7u64; 64];
-    size(
-        b"5 stress loss missing",
-        b"\x01\x00\x01\x00\x01\x00\x00\x00\x64\x00\x00\x00\x00\x00\x00\x00\x01\x00\x01\x00\x02\x00\x00\x00\xff\xff\xff\xff\x00\x00\x00\x00",
-        b"\x01\x00\x00\x00\x01\x00\x00\x00\x01\x00\x00\x00\x01\x00\x00\x00",
-        0,
-        0,
-        &mut slip,
-    );
-    let mut slip = [7u64; 64];
-    size(
-        b"5 before 7",
-        b"\x01\x00\x01\x00\x01\x00\x00\x00\x64\x00\x00\x00\x00\x00\x00\x00\x01\x00\x01\x00\x01\x00\x00\x00\xff\xff\xff\xff\x00\x00\x00\x00",
-        b"\x01\x00\x00\x00\x01\x00\x00\x00\x01\x00\x00\x00\x01\x00\x00\x00",
-        0,
-        0,
-        &mut slip,
-    );
-    let mut slip = [7u64; 64];
-    size(
-        b"5 share missing",
-        b"\x01\x00\x01\x00\x01\x00\x00\x00\x64\x00\x00\x00\x00\x00\x00\x00",
-        b"\x01\x00\x00\x00\x01\x00\x00\x00\xff\xff\xff\xff\x01\x00\x00\x00",
-        0,
-        0,
-        &mut slip,
-    );
-    let mut slip = [7u64; 64];
-    size(
-        b"6 loss above the limit",
-        b"\x01\x00\x01\x00\x01\x00\x00\x00\x01\x84\xd7\x17\x00\x00\x00\x00",
-        b"\x01\x00\x00\x00\x01\x00\x00\x00\x01\x00\x00\x00\x01\x00\x00\x00",
-        0,
-        0,
-        &mut slip,
-    );
-    let mut slip = [7u64; 64];
-    size(
-        b"6 before 7",
-        b"\x01\x00\x01\x00\x01\x00\x00\x00\x64\x00\x00\x00\x00\x00\x00\x00\x01\x00\x01\x00\x01\x00\x00\x00\x01\x84\xd7\x17\x00\x00\x00\x00",
-        b"\x01\x00\x00\x00\x01\x00\x00\x00\x01\x00\x00\x00\x01\x00\x00\x00",
-        0,
-        0,
-        &mut slip,
-    );
-    let mut slip = [7u64; 64];
-    size(
-        b"6 share above the limit",
-        b"\x01\x00\x01\x00\x01\x00\x00\x00\x64\x00\x00\x00\x00\x00\x00\x00",
-        b"\x01\x00\x00\x00\x01\x00\x00\x00\x01\x00\x00\x00\x01\x00\x00\x00\x02\x00\x00\x00\x01\x84\xd7\x17\x00\x00\x00\x00\x00\x00\x00\x00",
-        0,
-        0,
-        &mut slip,
-    );
-}
-
-fn sizings5() {
-    let mut slip = [7u64; 64];
-    size(
-        b"7 member again",
-        b"\x01\x00\x01\x00\x01\x00\x00\x00\x64\x00\x00\x00\x00\x00\x00\x00\x01\x00\x01\x00\x01\x00\x00\x00\x05\x00\x00\x00\x00\x00\x00\x00",
-        b"\x01\x00\x00\x00\x01\x00\x00\x00\x01\x00\x00\x00\x01\x00\x00\x00",
-        0,
-        0,
-        &mut slip,
-    );
-    let mut slip = [7u64; 64];
-    size(
-        b"7 scenario falls",
-        b"\x01\x00\x02\x00\x01\x00\x00\x00\x05\x00\x00\x00\x00\x00\x00\x00\x01\x00\x01\x00\x02\x00\x00\x00\x05\x00\x00\x00\x00\x00\x00\x00",
-        b"\x01\x00\x00\x00\x01\x00\x00\x00\x01\x00\x00\x00\x01\x00\x00\x00",
-        0,
-        0,
-        &mut slip,
-    );
-    let mut slip = [7u64; 64];
-    size(
-        b"7 shares fall",
-        b"\x01\x00\x01\x00\x01\x00\x00\x00\x64\x00\x00\x00\x00\x00\x00\x00",
-        b"\x02\x00\x00\x00\x01\x00\x00\x00\x01\x00\x00\x00\x01\x00\x00\x00\x01\x00\x00\x00\x01\x00\x00\x00\x01\x00\x00\x00\x01\x00\x00\x00",
-        0,
-        0,
-        &mut slip,
-    );
-    let mut slip = [7u64; 64];
-    size(
-        b"8 sixth weak flag",
-        b"\x01\x00\x01\x00\x01\x01\x00\x00\x01\x00\x00\x00\x00\x00\x00\x00\x01\x00\x01\x00\x02\x01\x00\x00\x01\x00\x00\x00\x00\x00\x00\x00\x01\x00\x01\x00\x03\x01\x00\x00\x01\x00\x00\x00\x00\x00\x00\x00\x01\x00\x01\x00\x04\x01\x00\x00\x01\x00\x00\x00\x00\x00\x00\x00\x01\x00\x01\x00\x05\x01\x00\x00\x01\x00\x00\x00\x00\x00\x00\x00\x01\x00\x01\x00\x06\x01\x00\x00\x01\x00\x00\x00\x00\x00\x00\x00",
-        b"\x01\x00\x00\x00\x01\x00\x00\x00\x01\x00\x00\x00\x01\x00\x00\x00",
-        0,
-        0,
-        &mut slip,
-    );
-    let mut slip = [7u64; 64];
-    size(
-        b"8 not in the next block",
-        b"\x01\x00\x01\x00\x01\x01\x00\x00\x01\x00\x00\x00\x00\x00\x00\x00\x01\x00\x01\x00\x02\x01\x00\x00\x01\x00\x00\x00\x00\x00\x00\x00\x01\x00\x01\x00\x03\x01\x00\x00\x01\x00\x00\x00\x00\x00\x00\x00\x01\x00\x01\x00\x04\x01\x00\x00\x01\x00\x00\x00\x00\x00\x00\x00\x01\x00\x01\x00\x05\x01\x00\x00\x01\x00\x00\x00\x00\x00\x00\x00\x01\x00\x02\x00\x06\x01\x00\x00\x01\x00\x00\x00\x00\x00\x00\x00",
-        b"\x01\x00\x00\x00\x01\x00\x00\x00\x01\x00\x00\x00\x01\x00\x00\x00",
-        0,
-        0,
-        &mut slip,
-    );
-    let mut slip = [7u64; 64];
-    size(
-        b"7 before 8",
-        b"\x01\x00\x01\x00\x01\x01\x00\x00\x01\x00\x00\x00\x00\x00\x00\x00\x01\x00\x01\x00\x02\x01\x00\x00\x01\x00\x00\x00\x00\x00\x00\x00\x01\x00\x01\x00\x03\x01\x00\x00\x01\x00\x00\x00\x00\x00\x00\x00\x01\x00\x01\x00\x04\x01\x00\x00\x01\x00\x00\x00\x00\x00\x00\x00\x01\x00\x01\x00\x05\x01\x00\x00\x01\x00\x00\x00\x00\x00\x00\x00\x01\x00\x01\x00\x05\x01\x00\x00\x01\x00\x00\x00\x00\x00\x00\x00",
-        b"\x01\x00\x00\x00\x01\x00\x00\x00\x01\x00\x00\x00\x01\x00\x00\x00",
-        0,
-        0,
-        &mut slip,
-    );
-}
-
-fn sizings6() {
-    let mut slip = [7u64; 64];
-    size(
-        b"8 before shares",
-        b"\x01\x00\x01\x00\x01\x01\x00\x00\x01\x00\x00\x00\x00\x00\x00\x00\x01\x00\x01\x00\x02\x01\x00\x00\x01\x00\x00\x00\x00\x00\x00\x00\x01\x00\x01\x00\x03\x01\x00\x00\x01\x00\x00\x00\x00\x00\x00\x00\x01\x00\x01\x00\x04\x01\x00\x00\x01\x00\x00\x00\x00\x00\x00\x00\x01\x00\x01\x00\x05\x01\x00\x00\x01\x00\x00\x00\x00\x00\x00\x00\x01\x00\x01\x00\x06\x01\x00\x00\x01\x00\x00\x00\x00\x00\x00\x00",
-        b"\x00\x00\x00\x00\x01\x00\x00\x00\x01\x00\x00\x00\x01\x00\x00\x00",
-        0,
-        0,
-        &mut slip,
-    );
-    let mut slip = [7u64; 64];
-    size(
-        b"9 a column of zeros",
-        b"\x01\x00\x01\x00\x01\x00\x00\x00\x64\x00\x00\x00\x00\x00\x00\x00",
-        b"\x01\x00\x00\x00\x01\x00\x00\x00\x00\x00\x00\x00\x01\x00\x00\x00",
-        0,
-        0,
-        &mut slip,
-    );
-    let mut slip = [7u64; 64];
-    size(
-        b"9 for B before 10 for B",
-        b"\x01\x00\x01\x00\x01\x00\x00\x00\x00\x84\xd7\x17\x00\x00\x00\x00\x01\x00\x01\x00\x02\x00\x00\x00\x00\x84\xd7\x17\x00\x00\x00\x00",
-        b"\x01\x00\x00\x00\x01\x00\x00\x00\x00\x00\x00\x00\x01\x00\x00\x00",
-        25600000000,
-        0,
-        &mut slip,
-    );
-    let mut slip = [7u64; 64];
-    size(
-        b"10 for B",
-        b"\x01\x00\x01\x00\x01\x00\x00\x00\x64\x00\x00\x00\x00\x00\x00\x00",
-        b"\x01\x00\x00\x00\x01\x00\x00\x00\x01\x00\x00\x00\x01\x00\x00\x00",
-        25600000000,
-        0,
-        &mut slip,
-    );
-    let mut slip = [7u64; 64];
-    size(
-        b"10 for D",
-        b"\x01\x00\x01\x00\x01\x00\x00\x00\x00\x84\xd7\x17\x00\x00\x00\x00",
-        b"\x01\x00\x00\x00\x01\x00\x00\x00\x01\x00\x00\x00\x01\x00\x00\x00",
-        0,
-        0,
-        &mut slip,
-    );
+// A refused opening hands back what the opening of nothing does.
+fn opening(label: &[u8], own: u64, records: &[u8]) -> Register
+    ensures { λ r. ⌜ GivenBack r ⌝ }
+{
+    let read = bytes(records, 0);
+    let end = read.count;
+    let sheet = read.list;
+    let opened = open(&sheet[0..end], own);
+    let nothing = open(b"", 0);
+    let kept = same(opened.register, nothing.register);
+    let number = opened.refusal.number as u64;
+    say(label, number, opened.refusal.position as u64, kept);
+    opened.register
 }
 
 fn number_of(reply: Reply) -> u64 {
@@ -394,378 +261,94 @@ fn number_of(reply: Reply) -> u64 {
     }
 }
 
-// A default on the register, which is handed back.
-fn default(
-    label: &[u8],
-    register: Register,
-    member: u64,
-    loss: u64,
-    ranks: &[u8],
-    slip: &mut [u64],
-) -> Register
-    requires { ⌜ GivenBack register ⌝ }
-    ensures { λ r. ⌜ GivenBack r ⌝ }
-{
-    let outcome = declare(register, member, loss, ranks, slip);
-    let reply = outcome.reply;
-    tell(label, number_of(reply), 0, slip);
-    outcome.register
-}
-
-// Says what a call answered, and hands on the register that it gave back.
-fn told(label: &[u8], outcome: Outcome) -> Register
-    requires { ⌜ GivenBack (outcome .register) ⌝ }
+// Says what a call on the register answered. The register that is kept is the new one where there is no label.
+fn told(label: &[u8], register: Register, outcome: Outcome, kept: bool) -> Register
+    requires { ⌜ GivenBack register × GivenBack (outcome .register) ⌝ }
     ensures { λ r. ⌜ GivenBack r ⌝ }
 {
     let reply = outcome.reply;
-    say(label, number_of(reply), 0);
-    outcome.register
+    let unaltered = same(register, outcome.register);
+    say(label, number_of(reply), 0, kept & unaltered);
+    if label.len() == 0 {
+        return outcome.register;
+    }
+    register
 }
 
-fn payment(label: &[u8], register: Register, member: u64, amount: u64) -> Register
+fn default(label: &[u8], n: Given, named: &[u8], register: Register) -> Register
+    requires { ⌜ GivenBack register × (n .third ≤ 96) × (n .fourth ≤ 130) ⌝ }
+    ensures { λ r. ⌜ GivenBack r ⌝ }
+{
+    let read = bytes(named, 255);
+    let ranks = read.list;
+    let count = n.third;
+    let mut slip = [7u64; 130];
+    let lent = n.fourth;
+    let outcome = declare(
+        register,
+        n.first,
+        n.second,
+        &ranks[0..count],
+        &mut slip[0..lent],
+    );
+    told(label, register, outcome, untouched(&slip))
+}
+
+// A call that is lent no slip, by its first letter.
+fn call(kind: u8, register: Register, member: u64, amount: u64) -> Outcome
+    requires { ⌜ GivenBack register ⌝ }
+    ensures { λ r. ⌜ GivenBack (r .register) ⌝ }
+{
+    match kind {
+        b'p' => pay(register, member, amount),
+        b'r' => replenish(register, member, amount),
+        _ => close(register),
+    }
+}
+
+// A line, by the first letter of what is called.
+fn run(line: &[u8], register: Register) -> Register
     requires { ⌜ GivenBack register ⌝ }
     ensures { λ r. ⌜ GivenBack r ⌝ }
 {
-    told(label, pay(register, member, amount))
+    let label = before(line, b':');
+    let words = from(line, b':');
+    let n = figures(words);
+    let sheets = from(words, b'/');
+    if words.len() < 3 {
+        return register;
+    }
+    let kind = words[2];
+    match kind {
+        b's' => {
+            size(label, n, sheets);
+            register
+        }
+        b'o' => opening(label, n.first, sheets),
+        b'd' => default(label, n, sheets, register),
+        _ => told(
+            label,
+            register,
+            call(kind, register, n.first, n.second),
+            true,
+        ),
+    }
 }
 
-fn replenishment(label: &[u8], register: Register, member: u64, amount: u64) -> Register
-    requires { ⌜ GivenBack register ⌝ }
-    ensures { λ r. ⌜ GivenBack r ⌝ }
-{
-    told(label, replenish(register, member, amount))
-}
-
-fn closing(label: &[u8], register: Register) -> Register
-    requires { ⌜ GivenBack register ⌝ }
-    ensures { λ r. ⌜ GivenBack r ⌝ }
-{
-    told(label, close(register))
-}
-
-// Document 01's register of four members.
-fn four() -> Register
-    ensures { λ r. ⌜ GivenBack r ⌝ }
-{
-    let sheet =
-        b"\x01\x00\x00\x00\x50\xc3\x00\x00\x20\x4e\x00\x00\x10\x27\x00\x00\x02\x00\x00\x00\x00\x00\x00\x00\x30\x75\x00\x00\x98\x3a\x00\x00\x03\x00\x00\x00\x00\x00\x00\x00\x10\x27\x00\x00\x88\x13\x00\x00\x04\x00\x00\x00\x00\x00\x00\x00\x20\x4e\x00\x00\x00\x00\x00\x00";
-    let opened = open(sheet, 22_000);
-    opened.register
-}
-
-fn defaults1() {
-    let mut slip = [7u64; 130];
-    default(
-        b"11 member 0",
-        four(),
-        0,
-        0,
-        b"\xff\x01\x02\x02\xff\xff\xff\xff\xff\xff\xff\xff\xff\xff\xff\xff\xff\xff\xff\xff\xff\xff\xff\xff\xff\xff\xff\xff\xff\xff\xff\xff\xff\xff\xff\xff\xff\xff\xff\xff\xff\xff\xff\xff\xff\xff\xff\xff\xff\xff\xff\xff\xff\xff\xff\xff\xff\xff\xff\xff\xff\xff\xff\xff",
-        &mut slip[..128],
-    );
-    let mut slip = [7u64; 130];
-    default(
-        b"11 member 5",
-        four(),
-        5,
-        0,
-        b"\xff\x01\x02\x02\xff\xff\xff\xff\xff\xff\xff\xff\xff\xff\xff\xff\xff\xff\xff\xff\xff\xff\xff\xff\xff\xff\xff\xff\xff\xff\xff\xff\xff\xff\xff\xff\xff\xff\xff\xff\xff\xff\xff\xff\xff\xff\xff\xff\xff\xff\xff\xff\xff\xff\xff\xff\xff\xff\xff\xff\xff\xff\xff\xff",
-        &mut slip[..128],
-    );
-    let mut slip = [7u64; 130];
-    default(
-        b"11 member 65",
-        four(),
-        65,
-        0,
-        b"\xff\x01\x02\x02\xff\xff\xff\xff\xff\xff\xff\xff\xff\xff\xff\xff\xff\xff\xff\xff\xff\xff\xff\xff\xff\xff\xff\xff\xff\xff\xff\xff\xff\xff\xff\xff\xff\xff\xff\xff\xff\xff\xff\xff\xff\xff\xff\xff\xff\xff\xff\xff\xff\xff\xff\xff\xff\xff\xff\xff\xff\xff\xff\xff",
-        &mut slip[..128],
-    );
-    let mut slip = [7u64; 130];
-    default(
-        b"11 member 257",
-        four(),
-        257,
-        0,
-        b"\xff\x01\x02\x02\xff\xff\xff\xff\xff\xff\xff\xff\xff\xff\xff\xff\xff\xff\xff\xff\xff\xff\xff\xff\xff\xff\xff\xff\xff\xff\xff\xff\xff\xff\xff\xff\xff\xff\xff\xff\xff\xff\xff\xff\xff\xff\xff\xff\xff\xff\xff\xff\xff\xff\xff\xff\xff\xff\xff\xff\xff\xff\xff\xff",
-        &mut slip[..128],
-    );
-}
-
-fn defaults2() {
-    let mut slip = [7u64; 130];
-    default(
-        b"11 member 4294967297",
-        four(),
-        4294967297,
-        0,
-        b"\xff\x01\x02\x02\xff\xff\xff\xff\xff\xff\xff\xff\xff\xff\xff\xff\xff\xff\xff\xff\xff\xff\xff\xff\xff\xff\xff\xff\xff\xff\xff\xff\xff\xff\xff\xff\xff\xff\xff\xff\xff\xff\xff\xff\xff\xff\xff\xff\xff\xff\xff\xff\xff\xff\xff\xff\xff\xff\xff\xff\xff\xff\xff\xff",
-        &mut slip[..128],
-    );
-    let mut slip = [7u64; 130];
-    default(
-        b"11 member 18446744073709551615",
-        four(),
-        18446744073709551615,
-        0,
-        b"\xff\x01\x02\x02\xff\xff\xff\xff\xff\xff\xff\xff\xff\xff\xff\xff\xff\xff\xff\xff\xff\xff\xff\xff\xff\xff\xff\xff\xff\xff\xff\xff\xff\xff\xff\xff\xff\xff\xff\xff\xff\xff\xff\xff\xff\xff\xff\xff\xff\xff\xff\xff\xff\xff\xff\xff\xff\xff\xff\xff\xff\xff\xff\xff",
-        &mut slip[..128],
-    );
-    let mut slip = [7u64; 130];
-    default(
-        b"11 before 13",
-        four(),
-        5,
-        25600000001,
-        b"\xff\x01\x02\x02\xff\xff\xff\xff\xff\xff\xff\xff\xff\xff\xff\xff\xff\xff\xff\xff\xff\xff\xff\xff\xff\xff\xff\xff\xff\xff\xff\xff\xff\xff\xff\xff\xff\xff\xff\xff\xff\xff\xff\xff\xff\xff\xff\xff\xff\xff\xff\xff\xff\xff\xff\xff\xff\xff\xff\xff\xff\xff\xff\xff",
-        &mut slip[..128],
-    );
-    let mut slip = [7u64; 130];
-    default(
-        b"11 before 14",
-        four(),
-        5,
-        0,
-        b"\xff\x01\x02\x02\xff\xff\xff\xff\xff\xff\xff\xff\xff\xff\xff\xff\xff\xff\xff\xff\xff\xff\xff\xff\xff\xff\xff\xff\xff\xff\xff\xff\xff\xff\xff\xff\xff\xff\xff\xff\xff\xff\xff\xff\xff\xff\xff\xff\xff\xff\xff\xff\xff\xff\xff\xff\xff\xff\xff\xff\xff\xff\xff",
-        &mut slip[..127],
-    );
-}
-
-fn defaults3() {
-    let mut slip = [7u64; 130];
-    default(
-        b"13 loss above the limit",
-        four(),
-        1,
-        25600000001,
-        b"\xff\x01\x02\x02\xff\xff\xff\xff\xff\xff\xff\xff\xff\xff\xff\xff\xff\xff\xff\xff\xff\xff\xff\xff\xff\xff\xff\xff\xff\xff\xff\xff\xff\xff\xff\xff\xff\xff\xff\xff\xff\xff\xff\xff\xff\xff\xff\xff\xff\xff\xff\xff\xff\xff\xff\xff\xff\xff\xff\xff\xff\xff\xff\xff",
-        &mut slip[..128],
-    );
-    let mut slip = [7u64; 130];
-    default(
-        b"13 the largest number",
-        four(),
-        1,
-        18446744073709551615,
-        b"\xff\x01\x02\x02\xff\xff\xff\xff\xff\xff\xff\xff\xff\xff\xff\xff\xff\xff\xff\xff\xff\xff\xff\xff\xff\xff\xff\xff\xff\xff\xff\xff\xff\xff\xff\xff\xff\xff\xff\xff\xff\xff\xff\xff\xff\xff\xff\xff\xff\xff\xff\xff\xff\xff\xff\xff\xff\xff\xff\xff\xff\xff\xff\xff",
-        &mut slip[..128],
-    );
-    let mut slip = [7u64; 130];
-    default(
-        b"13 before 14",
-        four(),
-        1,
-        25600000001,
-        b"\xff\x01\x02\x02\xff\xff\xff\xff\xff\xff\xff\xff\xff\xff\xff\xff\xff\xff\xff\xff\xff\xff\xff\xff\xff\xff\xff\xff\xff\xff\xff\xff\xff\xff\xff\xff\xff\xff\xff\xff\xff\xff\xff\xff\xff\xff\xff\xff\xff\xff\xff\xff\xff\xff\xff\xff\xff\xff\xff\xff\xff\xff\xff",
-        &mut slip[..127],
-    );
-    let mut slip = [7u64; 130];
-    default(
-        b"14 ranks of 63 bytes",
-        four(),
-        1,
-        0,
-        b"\xff\x01\x02\x02\xff\xff\xff\xff\xff\xff\xff\xff\xff\xff\xff\xff\xff\xff\xff\xff\xff\xff\xff\xff\xff\xff\xff\xff\xff\xff\xff\xff\xff\xff\xff\xff\xff\xff\xff\xff\xff\xff\xff\xff\xff\xff\xff\xff\xff\xff\xff\xff\xff\xff\xff\xff\xff\xff\xff\xff\xff\xff\xff",
-        &mut slip[..128],
-    );
-}
-
-fn defaults4() {
-    let mut slip = [7u64; 130];
-    default(
-        b"14 ranks of 65 bytes",
-        four(),
-        1,
-        0,
-        b"\xff\x01\x02\x02\xff\xff\xff\xff\xff\xff\xff\xff\xff\xff\xff\xff\xff\xff\xff\xff\xff\xff\xff\xff\xff\xff\xff\xff\xff\xff\xff\xff\xff\xff\xff\xff\xff\xff\xff\xff\xff\xff\xff\xff\xff\xff\xff\xff\xff\xff\xff\xff\xff\xff\xff\xff\xff\xff\xff\xff\xff\xff\xff\xff\xff",
-        &mut slip[..128],
-    );
-    let mut slip = [7u64; 130];
-    default(
-        b"14 slip of 127 numbers",
-        four(),
-        1,
-        0,
-        b"\xff\x01\x02\x02\xff\xff\xff\xff\xff\xff\xff\xff\xff\xff\xff\xff\xff\xff\xff\xff\xff\xff\xff\xff\xff\xff\xff\xff\xff\xff\xff\xff\xff\xff\xff\xff\xff\xff\xff\xff\xff\xff\xff\xff\xff\xff\xff\xff\xff\xff\xff\xff\xff\xff\xff\xff\xff\xff\xff\xff\xff\xff\xff\xff",
-        &mut slip[..127],
-    );
-    let mut slip = [7u64; 130];
-    default(
-        b"14 before 15",
-        four(),
-        1,
-        0,
-        b"\xff\x00\x02\x02\xff\xff\xff\xff\xff\xff\xff\xff\xff\xff\xff\xff\xff\xff\xff\xff\xff\xff\xff\xff\xff\xff\xff\xff\xff\xff\xff\xff\xff\xff\xff\xff\xff\xff\xff\xff\xff\xff\xff\xff\xff\xff\xff\xff\xff\xff\xff\xff\xff\xff\xff\xff\xff\xff\xff\xff\xff\xff\xff\xff",
-        &mut slip[..127],
-    );
-    let mut slip = [7u64; 130];
-    default(
-        b"15 rank 0",
-        four(),
-        1,
-        0,
-        b"\xff\x00\x02\x02\xff\xff\xff\xff\xff\xff\xff\xff\xff\xff\xff\xff\xff\xff\xff\xff\xff\xff\xff\xff\xff\xff\xff\xff\xff\xff\xff\xff\xff\xff\xff\xff\xff\xff\xff\xff\xff\xff\xff\xff\xff\xff\xff\xff\xff\xff\xff\xff\xff\xff\xff\xff\xff\xff\xff\xff\xff\xff\xff\xff",
-        &mut slip[..128],
-    );
-}
-
-fn defaults5() {
-    let mut slip = [7u64; 130];
-    default(
-        b"15 rank 65",
-        four(),
-        1,
-        0,
-        b"\xff\x41\x02\x02\xff\xff\xff\xff\xff\xff\xff\xff\xff\xff\xff\xff\xff\xff\xff\xff\xff\xff\xff\xff\xff\xff\xff\xff\xff\xff\xff\xff\xff\xff\xff\xff\xff\xff\xff\xff\xff\xff\xff\xff\xff\xff\xff\xff\xff\xff\xff\xff\xff\xff\xff\xff\xff\xff\xff\xff\xff\xff\xff\xff",
-        &mut slip[..128],
-    );
-    let mut slip = [7u64; 130];
-    default(
-        b"15 rank 254",
-        four(),
-        1,
-        0,
-        b"\xff\x01\xfe\x02\xff\xff\xff\xff\xff\xff\xff\xff\xff\xff\xff\xff\xff\xff\xff\xff\xff\xff\xff\xff\xff\xff\xff\xff\xff\xff\xff\xff\xff\xff\xff\xff\xff\xff\xff\xff\xff\xff\xff\xff\xff\xff\xff\xff\xff\xff\xff\xff\xff\xff\xff\xff\xff\xff\xff\xff\xff\xff\xff\xff",
-        &mut slip[..128],
-    );
-    let mut slip = [7u64; 130];
-    default(
-        b"15 rank 255 for member 4",
-        four(),
-        1,
-        0,
-        b"\xff\x01\x02\xff\xff\xff\xff\xff\xff\xff\xff\xff\xff\xff\xff\xff\xff\xff\xff\xff\xff\xff\xff\xff\xff\xff\xff\xff\xff\xff\xff\xff\xff\xff\xff\xff\xff\xff\xff\xff\xff\xff\xff\xff\xff\xff\xff\xff\xff\xff\xff\xff\xff\xff\xff\xff\xff\xff\xff\xff\xff\xff\xff\xff",
-        &mut slip[..128],
-    );
-    let mut slip = [7u64; 130];
-    default(
-        b"accepted, rank 64",
-        four(),
-        1,
-        0,
-        b"\x00\x40\x40\x01\xff\xff\xff\xff\xff\xff\xff\xff\xff\xff\xff\xff\xff\xff\xff\xff\xff\xff\xff\xff\xff\xff\xff\xff\xff\xff\xff\xff\xff\xff\xff\xff\xff\xff\xff\xff\xff\xff\xff\xff\xff\xff\xff\xff\xff\xff\xff\xff\xff\xff\xff\xff\xff\xff\xff\xff\xff\xff\xff\xff",
-        &mut slip[..128],
-    );
-}
-
-fn defaults6() {
-    let mut slip = [7u64; 130];
-    default(
-        b"accepted, rank 255 for member 1",
-        four(),
-        1,
-        25600000000,
-        b"\xff\x01\x02\x02\xff\xff\xff\xff\xff\xff\xff\xff\xff\xff\xff\xff\xff\xff\xff\xff\xff\xff\xff\xff\xff\xff\xff\xff\xff\xff\xff\xff\xff\xff\xff\xff\xff\xff\xff\xff\xff\xff\xff\xff\xff\xff\xff\xff\xff\xff\xff\xff\xff\xff\xff\xff\xff\xff\xff\xff\xff\xff\xff\xff",
-        &mut slip[..128],
-    );
-    let mut slip = [7u64; 130];
-    default(
-        b"accepted, a slip of 130 numbers",
-        four(),
-        1,
-        0,
-        b"\xff\x01\x02\x02\xff\xff\xff\xff\xff\xff\xff\xff\xff\xff\xff\xff\xff\xff\xff\xff\xff\xff\xff\xff\xff\xff\xff\xff\xff\xff\xff\xff\xff\xff\xff\xff\xff\xff\xff\xff\xff\xff\xff\xff\xff\xff\xff\xff\xff\xff\xff\xff\xff\xff\xff\xff\xff\xff\xff\xff\xff\xff\xff\xff",
-        &mut slip,
-    );
-}
-
-// After a default of member 1 that leaves 20,000 to be called: 15,000 of member 2 and 5,000 of member 3.
-fn called() -> Register
-    ensures { λ r. ⌜ GivenBack r ⌝ }
-{
-    let mut slip = [0u64; 128];
-    let ranks =
-        b"\xff\x01\x02\x02\xff\xff\xff\xff\xff\xff\xff\xff\xff\xff\xff\xff\xff\xff\xff\xff\xff\xff\xff\xff\xff\xff\xff\xff\xff\xff\xff\xff\xff\xff\xff\xff\xff\xff\xff\xff\xff\xff\xff\xff\xff\xff\xff\xff\xff\xff\xff\xff\xff\xff\xff\xff\xff\xff\xff\xff\xff\xff\xff\xff";
-    let outcome = declare(four(), 1, 172_000, ranks, &mut slip);
-    outcome.register
-}
-
-fn again() {
-    let mut slip = [7u64; 130];
-    default(
-        b"12 default again",
-        called(),
-        1,
-        0,
-        b"\xff\x01\x02\x02\xff\xff\xff\xff\xff\xff\xff\xff\xff\xff\xff\xff\xff\xff\xff\xff\xff\xff\xff\xff\xff\xff\xff\xff\xff\xff\xff\xff\xff\xff\xff\xff\xff\xff\xff\xff\xff\xff\xff\xff\xff\xff\xff\xff\xff\xff\xff\xff\xff\xff\xff\xff\xff\xff\xff\xff\xff\xff\xff\xff",
-        &mut slip,
-    );
-    let mut slip = [7u64; 130];
-    default(
-        b"12 before 13",
-        called(),
-        1,
-        25600000001,
-        b"\xff\x01\x02\x02\xff\xff\xff\xff\xff\xff\xff\xff\xff\xff\xff\xff\xff\xff\xff\xff\xff\xff\xff\xff\xff\xff\xff\xff\xff\xff\xff\xff\xff\xff\xff\xff\xff\xff\xff\xff\xff\xff\xff\xff\xff\xff\xff\xff\xff\xff\xff\xff\xff\xff\xff\xff\xff\xff\xff\xff\xff\xff\xff\xff",
-        &mut slip,
-    );
-}
-
-fn payments1() {
-    let start = called();
-    payment(b"11 payment of member 5", start, 5, 1);
-    payment(b"11 payment before 16", start, 0, 0);
-    payment(b"12 payment of the defaulter", start, 1, 1);
-    payment(b"12 payment before 16", start, 1, 0);
-}
-
-fn payments2() {
-    let start = called();
-    payment(b"16 payment of nothing", start, 2, 0);
-    payment(b"16 one too many", start, 2, 15001);
-    payment(b"16 the largest number", start, 2, 18446744073709551615);
-    payment(b"16 nothing outstanding", start, 4, 1);
-}
-
-fn payments3() {
-    let start = called();
-    payment(b"payment in part", start, 2, 14999);
-    payment(b"payment of all", start, 2, 15000);
-}
-
-fn replenishments1() {
-    let start = called();
-    replenishment(b"11 replenishment of member 5", start, 5, 1);
-    replenishment(b"12 replenishment of the defaulter", start, 1, 1);
-    replenishment(b"12 replenishment before 17", start, 1, 0);
-    replenishment(b"17 replenishment of nothing", start, 2, 0);
-}
-
-fn replenishments2() {
-    let start = called();
-    replenishment(b"17 one too many for member 2", start, 2, 30001);
-    replenishment(b"17 the largest number", start, 2, 18446744073709551615);
-    replenishment(b"replenishment to the requirement", start, 2, 30000);
-}
-
-fn closes() {
-    let start = called();
-    closing(b"18 two calls outstanding", start);
-    let one = payment(b"the first paid", start, 2, 15_000);
-    closing(b"18 one call outstanding", one);
-    let none = payment(b"the second paid", one, 3, 5_000);
-    let closed = closing(b"close", none);
-    closing(b"close again", closed);
+fn run_all(cases: &[u8]) {
+    let opened = open(b"", 0);
+    let mut register = opened.register;
+    let mut at = 0;
+    while at < cases.len() {
+        let line = before(&cases[at..], b'\n');
+        let next = run(line, register);
+        register = next;
+        at += line.len() + 1;
+    }
 }
 
 fn main() {
-    sizings1();
-    sizings2();
-    sizings3();
-    sizings4();
-    sizings5();
-    sizings6();
-    defaults1();
-    defaults2();
-    defaults3();
-    defaults4();
-    defaults5();
-    defaults6();
-    again();
-    payments1();
-    payments2();
-    payments3();
-    replenishments1();
-    replenishments2();
-    closes();
+    let mut cases = io::large_buffer();
+    let n = io::read_full(STDIN_FILENO, &mut cases);
+    run_all(&cases[0..n]);
 }

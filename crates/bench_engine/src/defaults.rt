@@ -7,7 +7,7 @@ use waterfall::Outcome;
 use waterfall::Register;
 use waterfall::Reply;
 use waterfall::declaration::declare;
-use waterfall::sheet::open;
+use waterfall::opening::open;
 ghost use Prim.Native.Nat.{_≤_};
 ghost use Rattle.waterfall.specs.Register.{GivenBack};
 
@@ -45,7 +45,7 @@ fn register_sheet() -> [u8; 1024] {
 }
 
 fn fold_allocation(sum: u64, a: Allocation) -> u64 {
-    let b = fold(fold(sum, a.margin), a.own);
+    let b = fold(fold(sum, a.margin), a.contribution);
     let c = fold(fold(b, a.tranche1), a.members);
     let d = fold(fold(c, a.tranche2), a.calls);
     fold(fold(d, a.fallen), a.short)

@@ -7,7 +7,7 @@ use libc::STDOUT_FILENO;
 use waterfall::Allocation;
 use waterfall::Register;
 use waterfall::Reply;
-use waterfall::sheet::open;
+use waterfall::opening::open;
 use waterfall::view::member;
 ghost use Rattle.waterfall.specs.Register.{GivenBack};
 
@@ -19,7 +19,7 @@ fn word(text: &[u8], number: u64) {
 fn allocated(a: Allocation) {
     word(b"accepted fallen ", a.fallen);
     word(b" layers ", a.margin);
-    word(b" ", a.own);
+    word(b" ", a.contribution);
     word(b" ", a.tranche1);
     word(b" ", a.members);
     word(b" ", a.tranche2);

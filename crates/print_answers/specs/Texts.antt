@@ -20,7 +20,7 @@ unfoldable pub allocationText : Allocation → List ℕ
 allocationText a =
     labelled (ascii "accepted fallen ") (a .fallen)
     ++ labelled (ascii " layers ") (a .margin)
-    ++ labelled (ascii " ") (a .own)
+    ++ labelled (ascii " ") (a .contribution)
     ++ labelled (ascii " ") (a .tranche1)
     ++ labelled (ascii " ") (a .members)
     ++ labelled (ascii " ") (a .tranche2)

@@ -28,7 +28,7 @@ fn put_allocation(out: &mut [u8], a: Allocation) -> usize
     ensures { λ r. ⌜ r ≤ 200 ⌝ }
 {
     let b = put_two(out, 0, b"accepted fallen ", a.fallen, b" layers ", a.margin);
-    let c = put_two(out, b, b" ", a.own, b" ", a.tranche1);
+    let c = put_two(out, b, b" ", a.contribution, b" ", a.tranche1);
     let d = put_two(out, c, b" ", a.members, b" ", a.tranche2);
     let e = put_two(out, d, b" ", a.calls, b" short ", a.short);
     put_text(out, e, b"\n")

@@ -6,7 +6,7 @@ use Rattle.lists.specs.Limits.{memberLimit}
 use Rattle.lists.specs.Checks.{check}
 use Rattle.lists.specs.Texts.{ascii}
 use Rattle.numbers.specs.Numbers.{labelled}
-use Rattle.waterfall.specs.Register.{absent, inDefault}
+use Rattle.figures.specs.Figures.{absent, inDefault}
 use Rattle.waterfall.specs.View.{figuresOf}
 use Rattle.waterfall.specs.declared.Register.{Register}
 use Rattle.waterfall.specs.declared.view.MemberView.{MemberView}
@@ -39,7 +39,7 @@ membersText r (suc k) = membersText r k ++ memberText (k + 1) (figuresOf r (k + 
 -- "`register tranche1 X tranche2 Y`, then for each member"
 abbrev pub registerText : Register → List ℕ
 registerText r =
-    labelled (ascii "register tranche1 ") (r .first)
-    ++ labelled (ascii " tranche2 ") (r .second)
+    labelled (ascii "register tranche1 ") (r .tranche1)
+    ++ labelled (ascii " tranche2 ") (r .tranche2)
     ++ ascii "\n"
     ++ membersText r memberLimit

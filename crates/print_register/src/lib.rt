@@ -1,5 +1,7 @@
 // A register as text. Each function answers the place after the text.
 use buffers::put_text;
+use figures::ABSENT;
+use figures::IN_DEFAULT;
 use lists::MEMBER_LIMIT;
 use numbers::put_labelled;
 use numbers::put_two;
@@ -20,7 +22,7 @@ fn put_status(out: &mut [u8], at: usize, status: u8) -> usize
     ensures { λ r. ⌜ (r ≡ at + length (statusText status)) × (now (out .exit) ≡ written (now (out .entry)) at (statusText status)) ⌝ }
     ensures { λ r. ⌜ r ≤ at + 8 ⌝ }
 {
-    if status == 2 {
+    if status == IN_DEFAULT {
         return put_text(out, at, b" default");
     }
     put_text(out, at, b" live")
@@ -41,7 +43,7 @@ fn put_member(out: &mut [u8], at: usize, number: u64, v: MemberView) -> usize
     ensures { λ r. ⌜ (r ≡ at + length (memberText number v)) × (now (out .exit) ≡ written (now (out .entry)) at (memberText number v)) ⌝ }
     ensures { λ r. ⌜ r ≤ at + 219 ⌝ }
 {
-    if v.status == 0 {
+    if v.status == ABSENT {
         return at;
     }
     let a = put_name(out, at, number, v.status);
@@ -91,9 +93,9 @@ pub fn put_register(out: &mut [u8], register: Register) -> usize
         out,
         0,
         b"register tranche1 ",
-        own.first,
+        own.tranche1,
         b" tranche2 ",
-        own.second,
+        own.tranche2,
     );
     let b = put_text(out, a, b"\n");
     put_members(out, b, register)

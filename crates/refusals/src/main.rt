@@ -18,9 +18,9 @@ use waterfall::Register;
 use waterfall::Reply;
 use waterfall::close::close;
 use waterfall::declaration::declare;
+use waterfall::opening::open;
 use waterfall::payment::pay;
 use waterfall::replenishment::replenish;
-use waterfall::sheet::open;
 use waterfall::view::MemberView;
 use waterfall::view::member;
 use waterfall::view::tranches;
@@ -208,7 +208,7 @@ fn same(a: Register, b: Register) -> bool {
     }
     let x = tranches(a);
     let y = tranches(b);
-    (x.first == y.first) & (x.second == y.second)
+    (x.tranche1 == y.tranche1) & (x.tranche2 == y.tranche2)
 }
 
 fn size(label: &[u8], n: Given, sheets: &[u8])

@@ -65,7 +65,7 @@ fn drill(
 }
 
 fn run(sheet: &[u8], own: u64) {
-    let opened = waterfall::sheet::open(sheet, own);
+    let opened = waterfall::opening::open(sheet, own);
     let refusal = opened.refusal;
     let register = opened.register;
     let mut chunk = [0u8; 65536];

@@ -49,7 +49,9 @@ fn show(register: Register, number: u64) {
     io::write_all(STDOUT_FILENO, b"\n");
 }
 
-// Proved by hand: a function that lends a register is not covered by the borrow checker's own walk.
+// Margin, contributions and tranches hold 152,000 in all: of a loss of 152,001 one thousand is called, of member 3. It is asked for two, which is
+// refused, and pays it; member 2 puts money back, and the close finds nothing outstanding. Proved by hand, because a function that lends a register is
+// not covered by the borrow checker's own walk.
 fn calls(mut register: Register, loss: u64, ranks: &[u8], slip: &mut [u64])
     requires { ⌜ GivenBack register ⌝ }
 {

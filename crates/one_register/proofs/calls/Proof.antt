@@ -48,8 +48,9 @@ use denote.Triple.Walked.{says, needs, Stays, stay-dropped, gave-slice, walkOf, 
 use denote.Triple.Clauses.{Lasts, ensured, lasts}
 use denote.Exit.{yes}
 use Rattle.waterfall.specs.Register.{GivenBack}
-use Rattle.waterfall.specs.Default.{defaultOf, defaultSlip}
-use Rattle.waterfall.specs.Calls.{paymentOf, replenishmentOf, closeOf}
+use Rattle.waterfall.specs.Reply.{Says, nothing as nothing-allocated}
+use Rattle.waterfall.specs.Default.{allocationOf, defaultRefusal, defaultOf, defaultSlip}
+use Rattle.waterfall.specs.Calls.{closeOf, closeRefusal, paymentOf, paymentRefusal, replenishmentOf, replenishmentRefusal}
 use Rattle.waterfall.specs.declared.Register.{Register}
 use Rattle.waterfall.specs.declared.Reply.{Reply}
 use Rattle.waterfall.proofs.Register as T
@@ -177,8 +178,8 @@ module _ {M : Type 1} (𝓤 : URA M) (H : Heap 𝓤) (A : Atoms 𝓤) (W : Given
   gives-pay α l δ h n m v =
       qed W (raw (Pay .post (to-pay α l δ h n m) v) ∷ []) ∵ updating ! $
       use1 W (later (some (λ (r : Reply). ((‵ (flft (α ∷ []) fullShare) ⊛ ‵ ftrue) ⊛ ‵ (R.the-row .own r (v ∷ []))) ⊛ raw (ensured 𝓤 H A pay.ended (pay.clauses 𝓤 H A at-mem run) (α ∷ [], tt) (record { ptr = (l, 0); name = δ; now = h }, (n, (m, tt))) tt r)))) (id⊢ 𝓤 _) $ await ! tt $ pick ! (λ r. split ! $ move ! (1 ∷ []) $
-      use1 W (some (λ (ws : Lasts pay.ended (α ∷ [], tt) (record { ptr = (l, 0); name = δ; now = h }, (n, (m, tt)))). ‵ (lasts pay.ended (α ∷ [], tt) (record { ptr = (l, 0); name = δ; now = h }, (n, (m, tt))) ws) ⊛ raw (fact 𝓤 ((r ≡ paymentOf h n m .reply) × (ws .0 ≡ paymentOf h n m .register) × GivenBack (ws .0))))) (id⊢ 𝓤 _) $ pick ! (λ ws. split ! $ move ! (1 ∷ []) $
-      heard ! ((r ≡ paymentOf h n m .reply) × (ws .0 ≡ paymentOf h n m .register) × GivenBack (ws .0)) (λ said. fsplit ! $ move ! (1 ∷ []) $ drop ! $ move ! (1 ∷ []) $ split ! $ split ! $ at-once ! $ keep ! (2 ∷ 0 ∷ 3 ∷ []) $ offers ! (λ (r′ : Reply). ex 𝓤 (AnsweredBy α δ v r′)) r $ offers ! (AnsweredBy α δ v r) (ws .0) $ check ! (said .2) $ done !)))
+      use1 W (some (λ (ws : Lasts pay.ended (α ∷ [], tt) (record { ptr = (l, 0); name = δ; now = h }, (n, (m, tt)))). ‵ (lasts pay.ended (α ∷ [], tt) (record { ptr = (l, 0); name = δ; now = h }, (n, (m, tt))) ws) ⊛ raw (fact 𝓤 ((r ≡ paymentOf h n m .reply) × (ws .0 ≡ paymentOf h n m .register) × GivenBack (ws .0) × Says r (paymentRefusal h n m) nothing-allocated)))) (id⊢ 𝓤 _) $ pick ! (λ ws. split ! $ move ! (1 ∷ []) $
+      heard ! ((r ≡ paymentOf h n m .reply) × (ws .0 ≡ paymentOf h n m .register) × GivenBack (ws .0) × Says r (paymentRefusal h n m) nothing-allocated) (λ said. fsplit ! $ move ! (1 ∷ []) $ drop ! $ move ! (1 ∷ []) $ split ! $ split ! $ at-once ! $ keep ! (2 ∷ 0 ∷ 3 ∷ []) $ offers ! (λ (r′ : Reply). ex 𝓤 (AnsweredBy α δ v r′)) r $ offers ! (AnsweredBy α δ v r) (ws .0) $ check ! (said .2) $ done !)))
 
   abbrev to-replenish : ℕ → ℕ → GName → Register → ℕ → ℕ → Replenish .Ghost
   to-replenish α l δ h n m = (((α ∷ [], tt), (fullShare, tt), tt, (record { ptr = (l, 0); name = δ; now = h }, (n, (m, tt))), (vptr l 0 ∷ [], (vint w64 n ∷ [], (vint w64 m ∷ [], tt)))), tt)
@@ -192,8 +193,8 @@ module _ {M : Type 1} (𝓤 : URA M) (H : Heap 𝓤) (A : Atoms 𝓤) (W : Given
   gives-replenish α l δ h n m v =
       qed W (raw (Replenish .post (to-replenish α l δ h n m) v) ∷ []) ∵ updating ! $
       use1 W (later (some (λ (r : Reply). ((‵ (flft (α ∷ []) fullShare) ⊛ ‵ ftrue) ⊛ ‵ (R.the-row .own r (v ∷ []))) ⊛ raw (ensured 𝓤 H A replenish.ended (replenish.clauses 𝓤 H A at-mem run) (α ∷ [], tt) (record { ptr = (l, 0); name = δ; now = h }, (n, (m, tt))) tt r)))) (id⊢ 𝓤 _) $ await ! tt $ pick ! (λ r. split ! $ move ! (1 ∷ []) $
-      use1 W (some (λ (ws : Lasts replenish.ended (α ∷ [], tt) (record { ptr = (l, 0); name = δ; now = h }, (n, (m, tt)))). ‵ (lasts replenish.ended (α ∷ [], tt) (record { ptr = (l, 0); name = δ; now = h }, (n, (m, tt))) ws) ⊛ raw (fact 𝓤 ((r ≡ replenishmentOf h n m .reply) × (ws .0 ≡ replenishmentOf h n m .register) × GivenBack (ws .0))))) (id⊢ 𝓤 _) $ pick ! (λ ws. split ! $ move ! (1 ∷ []) $
-      heard ! ((r ≡ replenishmentOf h n m .reply) × (ws .0 ≡ replenishmentOf h n m .register) × GivenBack (ws .0)) (λ said. fsplit ! $ move ! (1 ∷ []) $ drop ! $ move ! (1 ∷ []) $ split ! $ split ! $ at-once ! $ keep ! (2 ∷ 0 ∷ 3 ∷ []) $ offers ! (λ (r′ : Reply). ex 𝓤 (AnsweredBy α δ v r′)) r $ offers ! (AnsweredBy α δ v r) (ws .0) $ check ! (said .2) $ done !)))
+      use1 W (some (λ (ws : Lasts replenish.ended (α ∷ [], tt) (record { ptr = (l, 0); name = δ; now = h }, (n, (m, tt)))). ‵ (lasts replenish.ended (α ∷ [], tt) (record { ptr = (l, 0); name = δ; now = h }, (n, (m, tt))) ws) ⊛ raw (fact 𝓤 ((r ≡ replenishmentOf h n m .reply) × (ws .0 ≡ replenishmentOf h n m .register) × GivenBack (ws .0) × Says r (replenishmentRefusal h n m) nothing-allocated)))) (id⊢ 𝓤 _) $ pick ! (λ ws. split ! $ move ! (1 ∷ []) $
+      heard ! ((r ≡ replenishmentOf h n m .reply) × (ws .0 ≡ replenishmentOf h n m .register) × GivenBack (ws .0) × Says r (replenishmentRefusal h n m) nothing-allocated) (λ said. fsplit ! $ move ! (1 ∷ []) $ drop ! $ move ! (1 ∷ []) $ split ! $ split ! $ at-once ! $ keep ! (2 ∷ 0 ∷ 3 ∷ []) $ offers ! (λ (r′ : Reply). ex 𝓤 (AnsweredBy α δ v r′)) r $ offers ! (AnsweredBy α δ v r) (ws .0) $ check ! (said .2) $ done !)))
 
   abbrev to-close : ℕ → ℕ → GName → Register → Close .Ghost
   to-close α l δ h = (((α ∷ [], tt), (fullShare, tt), tt, (record { ptr = (l, 0); name = δ; now = h }, tt), (vptr l 0 ∷ [], tt)), tt)
@@ -207,8 +208,8 @@ module _ {M : Type 1} (𝓤 : URA M) (H : Heap 𝓤) (A : Atoms 𝓤) (W : Given
   gives-close α l δ h v =
       qed W (raw (Close .post (to-close α l δ h) v) ∷ []) ∵ updating ! $
       use1 W (later (some (λ (r : Reply). ((‵ (flft (α ∷ []) fullShare) ⊛ ‵ ftrue) ⊛ ‵ (R.the-row .own r (v ∷ []))) ⊛ raw (ensured 𝓤 H A close.ended (close.clauses 𝓤 H A at-mem run) (α ∷ [], tt) (record { ptr = (l, 0); name = δ; now = h }, tt) tt r)))) (id⊢ 𝓤 _) $ await ! tt $ pick ! (λ r. split ! $ move ! (1 ∷ []) $
-      use1 W (some (λ (ws : Lasts close.ended (α ∷ [], tt) (record { ptr = (l, 0); name = δ; now = h }, tt)). ‵ (lasts close.ended (α ∷ [], tt) (record { ptr = (l, 0); name = δ; now = h }, tt) ws) ⊛ raw (fact 𝓤 ((r ≡ closeOf h .reply) × (ws .0 ≡ closeOf h .register) × GivenBack (ws .0))))) (id⊢ 𝓤 _) $ pick ! (λ ws. split ! $ move ! (1 ∷ []) $
-      heard ! ((r ≡ closeOf h .reply) × (ws .0 ≡ closeOf h .register) × GivenBack (ws .0)) (λ said. fsplit ! $ move ! (1 ∷ []) $ drop ! $ move ! (1 ∷ []) $ split ! $ split ! $ at-once ! $ keep ! (2 ∷ 0 ∷ 3 ∷ []) $ offers ! (λ (r′ : Reply). ex 𝓤 (AnsweredBy α δ v r′)) r $ offers ! (AnsweredBy α δ v r) (ws .0) $ check ! (said .2) $ done !)))
+      use1 W (some (λ (ws : Lasts close.ended (α ∷ [], tt) (record { ptr = (l, 0); name = δ; now = h }, tt)). ‵ (lasts close.ended (α ∷ [], tt) (record { ptr = (l, 0); name = δ; now = h }, tt) ws) ⊛ raw (fact 𝓤 ((r ≡ closeOf h .reply) × (ws .0 ≡ closeOf h .register) × GivenBack (ws .0) × Says r (closeRefusal h) nothing-allocated)))) (id⊢ 𝓤 _) $ pick ! (λ ws. split ! $ move ! (1 ∷ []) $
+      heard ! ((r ≡ closeOf h .reply) × (ws .0 ≡ closeOf h .register) × GivenBack (ws .0) × Says r (closeRefusal h) nothing-allocated) (λ said. fsplit ! $ move ! (1 ∷ []) $ drop ! $ move ! (1 ∷ []) $ split ! $ split ! $ at-once ! $ keep ! (2 ∷ 0 ∷ 3 ∷ []) $ offers ! (λ (r′ : Reply). ex 𝓤 (AnsweredBy α δ v r′)) r $ offers ! (AnsweredBy α δ v r) (ws .0) $ check ! (said .2) $ done !)))
 
   abbrev to-tell : Reply → Val → Tell .Ghost
   to-tell r v = ((tt, tt, tt, (r, tt), (v ∷ [], tt)), tt)
@@ -293,7 +294,7 @@ module _ {M : Type 1} (𝓤 : URA M) (H : Heap 𝓤) (A : Atoms 𝓤) (W : Given
 
     -- what the default ensures at its last values, and what the caller has of it: as of any call, and the tokens and the last slip
     abbrev Said : (α l : ℕ) (δ : GName) → Reply → Lasts declare.ended (α ∷ [], (κ₁, (κ₂, tt))) (args l δ) → Type 0
-    Said α l δ r ws = (r ≡ defaultOf first 1 loss (ranks .now) slip .reply) × (ws .0 ≡ defaultOf first 1 loss (ranks .now) slip .register) × (ws .1 .1 .1 .1 .0 ≡ defaultSlip first 1 loss (ranks .now) slip) × GivenBack (ws .0)
+    Said α l δ r ws = (r ≡ defaultOf first 1 loss (ranks .now) slip .reply) × (ws .0 ≡ defaultOf first 1 loss (ranks .now) slip .register) × (ws .1 .1 .1 .1 .0 ≡ defaultSlip first 1 loss (ranks .now) slip) × GivenBack (ws .0) × Says r (defaultRefusal first 1 loss (ranks .now) slip) (allocationOf first 1 loss (ranks .now))
 
     abbrev DeclaredBy : ℕ → GName → Val → Reply → Register → List ℕ → SProp 𝓤
     DeclaredBy α δ v r h zs = guard 𝓤 (GivenBack h × (length zs ≡ length slip)) (⋆ 𝓤 H A (‵ (R.the-row .own r (v ∷ [])) ∷ ‵ (flft (α ∷ []) fullShare) ∷ ‵ (last-at δ h) ∷ toks ∷ ‵ (finally u64 γ₂ zs) ∷ []))

@@ -98,7 +98,7 @@ loop-again : tie.Need-loop-again Inv-loop μ-loop
 loop-again c =
     let i = c .before .before .before .before .before .before .before .before .before .before .before .before .before .before .before .before .before .loop .inv in
     let w = c .match .came in (
-      by-case (λ a. rw (a .4) (i .0)) (λ a. rw (a .8) (i .0)) (λ a. rw (a .8) (i .0)) (λ a. rw (a .16) (a .5 .ensures .1 .1)) w,
+      by-case (λ a. rw (a .4) (i .0)) (λ a. rw (a .8) (i .0)) (λ a. rw (a .8) (i .0)) (λ a. rw (a .16) (a .5 .ensures .1 .1 .0)) w,
       search needs,
       search needs,
       search needs,

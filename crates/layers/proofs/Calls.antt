@@ -1,5 +1,5 @@
 -- Layers one after the other, and the calls of layer 6.
-use Prim.Native.Nat.{ℕ, _-_}
+use Prim.Native.Nat.{ℕ, _-_, _≤_}
 use mathlib.Core.Path.{_≡_, refl, ap, sym, _∙_}
 use mathlib.Core.Bool.{Bool, false}
 use mathlib.Core.List.{List}
@@ -17,6 +17,10 @@ use Rattle.layers.specs.Parts.{Calls}
 pub layer-as : (g l left left′ has has′ : ℕ) → (g ≡ gives left has) × (l ≡ left - gives left has) → left ≡ left′ → has ≡ has′
     → (g ≡ gives left′ has′) × (l ≡ left′ - gives left′ has′)
 layer-as g l left left′ has has′ e p q = rw (← p, ← q) e
+
+-- no more is left than there was
+pub leaves : {g l : ℕ} (left has : ℕ) → (g ≡ gives left has) × (l ≡ left - gives left has) → l ≤ left
+leaves left has e = omega arith
 
 -- layer 6, by the rooms that were found and their total
 pub called-so : (found rooms cs : List ℕ) (left whole g l : ℕ) (over : Bool) → found ≡ rooms → whole ≡ total found → (g ≡ gives left whole) × (l ≡ left - gives left whole)

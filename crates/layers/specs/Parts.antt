@@ -1,15 +1,17 @@
 -- What the parts of `layers` promise each other and their callers. No rule of document 01 is here.
 use Prim.Native.Nat.{ℕ, _-_, _≤_}
 use mathlib.Core.Path.{_≡_}
-use mathlib.Core.Bool.{Bool, false}
+use mathlib.Core.Bool.{Bool, false, _||_}
 use mathlib.Core.List.{List}
 use lib.ListN.{length, getD}
-use Rattle.lists.specs.Limits.{memberLimit, amountLimit, allocationLimit}
-use Rattle.lists.specs.Sums.{total}
+use Rattle.lists.specs.Limits.{memberLimit, amountLimit}
+use Rattle.lists.specs.Sums.{total, keep}
 use Rattle.split.specs.Split.{splitOf, exceeds}
+use Rattle.ranks.specs.Ranks.{chargesOf}
 use Rattle.figures.specs.Figures.{liveIn}
 use Rattle.admission.specs.Admission.{misranked}
 use Rattle.layers.specs.Layers.{gives}
+use Rattle.layers.specs.declared.Placed.{Placed}
 
 -- what layer 6 is asked with
 pub record Roomy (status cap called : List ℕ) : Type 0 where
@@ -20,11 +22,10 @@ pub record Roomy (status cap called : List ℕ) : Type 0 where
   pub called-fits : (k : ℕ) → getD called k 0 ≤ getD cap k 0
 
 -- what layer 4 is asked with
-pub record Chargeable (status contribution : List ℕ) (sum : ℕ) (ranks : List ℕ) : Type 0 where
+pub record Chargeable (status contribution ranks : List ℕ) : Type 0 where
   pub status-length : length status ≡ memberLimit
   pub contribution-length : length contribution ≡ memberLimit
   pub ranks-length : length ranks ≡ memberLimit
-  pub sum-fits : sum ≤ allocationLimit
   pub contribution-fits : (k : ℕ) → getD contribution k 0 ≤ amountLimit
   pub well-ranked : misranked (liveIn status) ranks ≡ false
 
@@ -34,3 +35,25 @@ pub record Calls (rooms : List ℕ) (left : ℕ) (calls : List ℕ) (called rest
   pub rest-is : rest ≡ left - gives left (total rooms)
   pub calls-are : calls ≡ splitOf (gives left (total rooms)) rooms
   pub over-is : over ≡ exceeds calls rooms
+
+-- a layer gives `given` of `left`, and leaves `rest`
+abbrev pub Layer : ℕ → ℕ → ℕ → ℕ → Type 0
+Layer left has given rest = (given ≡ gives left has) × (rest ≡ left - gives left has)
+
+-- a sum goes down the six layers; `left1` to `left5` are what is left after each
+pub record GoesDown (sum margin own tranche1 tranche2 : ℕ) (others : List Bool) (contribution rooms ranks : List ℕ) (placed : Placed) : Type 0 where
+  pub left1 : ℕ
+  pub left2 : ℕ
+  pub left3 : ℕ
+  pub left5 : ℕ
+  pub layer1 : Layer sum margin (placed .margin) left1
+  pub layer2 : Layer left1 own (placed .contribution) left2
+  pub layer3 : Layer left2 tranche1 (placed .tranche1) left3
+  pub charges-are : placed .charges ≡ chargesOf left3 (keep others contribution) ranks
+  pub members-are : placed .members ≡ total (placed .charges)
+  pub layer5 : Layer (left3 - placed .members) tranche2 (placed .tranche2) left5
+  pub over4 : Bool
+  pub over6 : Bool
+  pub over4-is : over4 ≡ exceeds (placed .charges) contribution
+  pub layer6 : Calls rooms left5 (placed .called) (placed .calls) (placed .short) over6
+  pub over-is : placed .over ≡ (over4 || over6)

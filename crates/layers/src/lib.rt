@@ -15,12 +15,12 @@ ghost use Rattle.split.specs.Split.{exceeds};
 ghost use Rattle.ranks.specs.Ranks.{chargesOf};
 ghost use Rattle.figures.specs.Figures.{live, liveIn};
 ghost use Rattle.layers.specs.Layers.{gives, rooms};
-ghost use Rattle.layers.specs.Parts.{Roomy, Chargeable, Calls};
+ghost use Rattle.layers.specs.Parts.{Roomy, Chargeable, Calls, GoesDown};
 
 // What a layer gives, and what is left after it.
-pub struct Given {
-    pub gives: u64,
-    pub left: u64,
+struct Given {
+    gives: u64,
+    left: u64,
 }
 
 // The rests of the caps, and their total.
@@ -30,15 +30,29 @@ struct Rooms {
 }
 
 // Layer 6: the calls, what is left after them, and whether one passes its room.
-pub struct Called {
-    pub calls: [u64; 64],
-    pub total: u64,
-    pub left: u64,
+struct Called {
+    calls: [u64; 64],
+    total: u64,
+    left: u64,
+    over: bool,
+}
+
+// What the six layers give, what is left after them, and whether a share passes what it is drawn from.
+pub struct Placed {
+    pub margin: u64,
+    pub contribution: u64,
+    pub tranche1: u64,
+    pub members: u64,
+    pub tranche2: u64,
+    pub calls: u64,
+    pub short: u64,
+    pub charges: [u64; 64],
+    pub called: [u64; 64],
     pub over: bool,
 }
 
 // "each giving all it has or all that is left to place"
-pub fn layer(left: u64, has: u64) -> Given
+fn layer(left: u64, has: u64) -> Given
     ensures { λ r. ⌜ (r .gives ≡ gives left has) × (r .left ≡ left - gives left has) ⌝ }
 {
     if left < has {
@@ -106,13 +120,13 @@ fn rooms_of<'a>(status: &'a [u8; 64], cap: &'a [u64; 64], called: &'a [u64; 64])
 }
 
 // Layer 4. "other live members' contributions"
-pub fn charge_others<'a>(
+fn charge_others<'a>(
     status: &'a [u8; 64],
     contribution: &'a [u64; 64],
     sum: u64,
     ranks: &[u8],
 ) -> Charged
-    requires { ⌜ Chargeable (now status) (now contribution) sum (now ranks) ⌝ }
+    requires { ⌜ (sum ≤ allocationLimit) × Chargeable (now status) (now contribution) (now ranks) ⌝ }
     ensures { λ r. ⌜ (r .charges ≡ chargesOf sum (keep (liveIn (now (status .entry))) (now (contribution .entry))) (now (ranks .entry)))
         × (r .total ≡ total (r .charges)) × (r .over ≡ exceeds (r .charges) (now (contribution .entry))) ⌝ }
 {
@@ -121,7 +135,7 @@ pub fn charge_others<'a>(
 }
 
 // Layer 6. "calls on other live members": where nothing is left, no room is looked at.
-pub fn call_others<'a>(
+fn call_others<'a>(
     status: &'a [u8; 64],
     cap: &'a [u64; 64],
     called: &'a [u64; 64],
@@ -147,5 +161,43 @@ pub fn call_others<'a>(
         total: step.gives,
         left: step.left,
         over,
+    }
+}
+
+// The six layers, one after the other: `sum` goes down them.
+pub fn place<'a>(
+    sum: u64,
+    margin: u64,
+    own: u64,
+    tranche1: u64,
+    tranche2: u64,
+    status: &'a [u8; 64],
+    contribution: &'a [u64; 64],
+    cap: &'a [u64; 64],
+    called: &'a [u64; 64],
+    ranks: &[u8],
+) -> Placed
+    requires { ⌜ (sum ≤ allocationLimit) × Chargeable (now status) (now contribution) (now ranks) × Roomy (now status) (now cap) (now called) ⌝ }
+    ensures { λ r. ⌜ GoesDown sum margin own tranche1 tranche2 (liveIn (now (status .entry))) (now (contribution .entry)) (rooms (liveIn (now (status .entry))) (now (cap .entry)) (now (called .entry))) (now (ranks .entry)) r ⌝ }
+{
+    let first = layer(sum, margin);
+    let second = layer(first.left, own);
+    let third = layer(second.left, tranche1);
+    let fourth = charge_others(status, contribution, third.left, ranks);
+    let fifth = layer(third.left - fourth.total, tranche2);
+    let sixth = call_others(status, cap, called, fifth.left);
+    let charges = fourth.charges;
+    let calls = sixth.calls;
+    Placed {
+        margin: first.gives,
+        contribution: second.gives,
+        tranche1: third.gives,
+        members: fourth.total,
+        tranche2: fifth.gives,
+        calls: sixth.total,
+        short: sixth.left,
+        charges,
+        called: calls,
+        over: fourth.over | sixth.over,
     }
 }

@@ -19,7 +19,8 @@ use Rattle.ranks.specs.Ranks.{chargesOf}
 use Rattle.figures.specs.Figures.{liveIn, inDefault, figure, replace, others}
 use Rattle.admission.specs.Admission.{misranked, admission}
 use Rattle.layers.specs.Layers.{gives, rooms}
-use Rattle.layers.specs.Parts.{Roomy, Chargeable, Calls}
+use Rattle.layers.specs.Parts.{Roomy, Chargeable, GoesDown}
+use Rattle.layers.specs.declared.Placed.{Placed}
 use Rattle.waterfall.specs.Register.{GivenBack}
 use Rattle.waterfall.specs.Default.{roomsOf, fallenCall, toPlace, onMargin, after1, onContribution, after2, onTranche1, after3, charges, after4, onTranche2, after5, onCalls, calls, shortfall, allocationOf, settledBy, settledOf, overdrawn, defaultRefusal, defaultOf, defaultSlip}
 use Rattle.waterfall.specs.Reply.{Says}
@@ -28,7 +29,7 @@ use Rattle.waterfall.specs.declared.Outcome.{Outcome}
 use Rattle.waterfall.specs.declared.Register.{Register}
 use Rattle.waterfall.specs.declared.Reply.the-variants.{Refused, Allocated}
 use Rattle.admission.proofs.Admitted.{admitted, admission-row}
-use Rattle.layers.proofs.Calls.{layer-as}
+use Rattle.layers.proofs.Calls.{layer-as, whole-called}
 use Rattle.waterfall.proofs.Answer.{refused, accepted, says-allocated}
 use Rattle.waterfall.proofs.Default.{unmarked, rooms-within, charges-within, calls-within, margin-gives, contribution-gives, tranche1-gives, tranche2-gives, never-overdrawn, charges-placed, charges-weighed}
 use Rattle.figures.proofs.Figures.{figure-at, figure-place}
@@ -84,102 +85,96 @@ module _ (r : Register) (member loss : ℕ) (ranks : List ℕ) (p : Placeable r 
       let g = p .given in
       omega (arith, g .outstanding-fits at, g .called-fits at, g .cap-fits at)
 
-  module _ (g1 l1 : ℕ) (e1 : (g1 ≡ gives (loss + getD (r .outstanding) at 0) (getD (r .margin) at 0)) × (l1 ≡ (loss + getD (r .outstanding) at 0) - gives (loss + getD (r .outstanding) at 0) (getD (r .margin) at 0)))
-      (g2 l2 : ℕ) (e2 : (g2 ≡ gives l1 (getD (r .contribution) at 0)) × (l2 ≡ l1 - gives l1 (getD (r .contribution) at 0)))
-      (g3 l3 : ℕ) (e3 : (g3 ≡ gives l2 (r .tranche1)) × (l3 ≡ l2 - gives l2 (r .tranche1))) where
-    pub left3-fits : l3 ≤ allocationLimit
-    left3-fits = omega (arith, e1, e2, e3, outstanding-fits, p .loss-fits)
+  pub placed-fits : loss + getD (r .outstanding) at 0 ≤ allocationLimit
+  placed-fits = omega (arith, outstanding-fits, p .loss-fits)
 
-    layer1-is : (g1 ≡ onMargin r member loss) × (l1 ≡ after1 r member loss)
+  pub chargeable : Chargeable marked (r .contribution) ranks
+  chargeable =
+      let g = p .given in
+      record {
+        status-length = length-set (r .status) at inDefault ∙ g .status-length;
+        contribution-length = g .contribution-length;
+        ranks-length = p .ranks-length;
+        contribution-fits = λ k. omega (arith, g .contribution-fits k, g .requirement-fits k);
+        well-ranked = p .well-ranked;
+      }
+
+  pub roomy : Roomy marked (r .cap) (r .called)
+  roomy =
+      let g = p .given in
+      record {
+        status-length = length-set (r .status) at inDefault ∙ g .status-length;
+        cap-length = g .cap-length;
+        called-length = g .called-length;
+        cap-fits = g .cap-fits;
+        called-fits = g .called-fits;
+      }
+
+  -- what goes down the layers, by what the register has
+  module _ (x : Placed) (d : GoesDown (loss + getD (r .outstanding) at 0) (getD (r .margin) at 0) (getD (r .contribution) at 0) (r .tranche1) (r .tranche2) (liveIn marked) (r .contribution) (rooms (liveIn marked) (r .cap) (r .called)) ranks x) where
+    layer1-is : (x .margin ≡ onMargin r member loss) × (d .left1 ≡ after1 r member loss)
     unfolding onMargin after1 toPlace fallenCall
-    layer1-is = layer-as _ _ _ _ _ _ e1 (ap (λ (n : ℕ). loss + n) (read (r .outstanding))) (read (r .margin))
+    layer1-is = layer-as _ _ _ _ _ _ (d .layer1) (ap (λ (n : ℕ). loss + n) (read (r .outstanding))) (read (r .margin))
 
-    layer2-is : (g2 ≡ onContribution r member loss) × (l2 ≡ after2 r member loss)
+    layer2-is : (x .contribution ≡ onContribution r member loss) × (d .left2 ≡ after2 r member loss)
     unfolding onContribution after2
-    layer2-is = layer-as _ _ _ _ _ _ e2 (layer1-is .1) (read (r .contribution))
+    layer2-is = layer-as _ _ _ _ _ _ (d .layer2) (layer1-is .1) (read (r .contribution))
 
-    layer3-is : (g3 ≡ onTranche1 r member loss) × (l3 ≡ after3 r member loss)
+    layer3-is : (x .tranche1 ≡ onTranche1 r member loss) × (d .left3 ≡ after3 r member loss)
     unfolding onTranche1 after3
-    layer3-is = layer-as _ _ _ _ _ _ e3 (layer2-is .1) refl
+    layer3-is = layer-as _ _ _ _ _ _ (d .layer3) (layer2-is .1) refl
 
-    pub chargeable : Chargeable marked (r .contribution) l3 ranks
-    chargeable =
-        let g = p .given in
+    layer4-is : x .charges ≡ charges r member loss ranks
+    unfolding charges
+    layer4-is = d .charges-are ∙ ap (λ (n : ℕ). chargesOf n (keep (liveIn marked) (r .contribution)) ranks) (layer3-is .1)
+
+    left4-is : d .left3 - x .members ≡ after4 r member loss ranks
+    unfolding after4
+    left4-is = rw (layer3-is .1, d .members-are, layer4-is)
+
+    layer5-is : (x .tranche2 ≡ onTranche2 r member loss ranks) × (d .left5 ≡ after5 r member loss ranks)
+    unfolding onTranche2 after5
+    layer5-is = layer-as _ _ _ _ _ _ (d .layer5) left4-is refl
+
+    pub placed-so : Places r member loss ranks
+        (record {
+          fallen = getD (r .outstanding) at 0;
+          margin = x .margin;
+          contribution = x .contribution;
+          tranche1 = x .tranche1;
+          members = x .members;
+          tranche2 = x .tranche2;
+          calls = x .calls;
+          short = x .short;
+        }) (x .charges) (x .called) (x .over)
+    unfolding allocationOf fallenCall onCalls calls shortfall roomsOf
+    placed-so =
+        let s = d .layer6 in
+        let five = layer5-is .1 in
+        let called : x .called ≡ calls r member loss ranks =
+        s .calls-are ∙ ap (λ (n : ℕ). splitOf (gives n (total (rooms (liveIn marked) (r .cap) (r .called)))) (rooms (liveIn marked) (r .cap) (r .called))) five in
         record {
-          status-length = length-set (r .status) at inDefault ∙ g .status-length;
-          contribution-length = g .contribution-length;
-          ranks-length = p .ranks-length;
-          sum-fits = left3-fits;
-          contribution-fits = λ k. omega (arith, g .contribution-fits k, g .requirement-fits k);
-          well-ranked = p .well-ranked;
+          allocation-is =
+              rw (
+                read (r .outstanding),
+                layer1-is .0,
+                layer2-is .0,
+                layer3-is .0,
+                d .members-are,
+                layer4-is,
+                layer5-is .0,
+                s .total-is,
+                s .rest-is,
+                five,
+              );
+          charges-are = layer4-is;
+          calls-are = called;
+          over-is = d .over-is ∙ rw (d .over4-is, layer4-is, s .over-is, called);
         }
 
-    module _ (ch : List ℕ) (t4 : ℕ) (e4 : (ch ≡ chargesOf l3 (keep (liveIn marked) (r .contribution)) ranks) × (t4 ≡ total ch)) where
-      pub layer4-is : ch ≡ charges r member loss ranks
-      unfolding charges
-      layer4-is = e4 .0 ∙ ap (λ (n : ℕ). chargesOf n (keep (liveIn marked) (r .contribution)) ranks) (layer3-is .1)
-
-      left4-is : l3 - t4 ≡ after4 r member loss ranks
-      unfolding after4
-      left4-is = rw (layer3-is .1, e4 .1, layer4-is)
-
-      pub within-left : t4 ≤ l3
-      within-left = omega (arith, e4 .1, ap total layer4-is, layer3-is .1, charges-placed r member loss ranks)
-
-      module _ (g5 l5 : ℕ) (e5 : (g5 ≡ gives (l3 - t4) (r .tranche2)) × (l5 ≡ (l3 - t4) - gives (l3 - t4) (r .tranche2))) where
-        pub left5-fits : l5 ≤ allocationLimit
-        left5-fits = omega (arith, e5, left3-fits)
-
-        layer5-is : (g5 ≡ onTranche2 r member loss ranks) × (l5 ≡ after5 r member loss ranks)
-        unfolding onTranche2 after5
-        layer5-is = layer-as _ _ _ _ _ _ e5 left4-is refl
-
-        pub roomy : Roomy marked (r .cap) (r .called)
-        roomy =
-            let g = p .given in
-            record {
-              status-length = length-set (r .status) at inDefault ∙ g .status-length;
-              cap-length = g .cap-length;
-              called-length = g .called-length;
-              cap-fits = g .cap-fits;
-              called-fits = g .called-fits;
-            }
-
-        pub placed-so : (cs : List ℕ) (t6 l6 : ℕ) (o o6 : Bool) → Calls (rooms (liveIn marked) (r .cap) (r .called)) l5 cs t6 l6 o6 → o ≡ exceeds ch (r .contribution)
-            → Places r member loss ranks
-            (record {
-              fallen = getD (r .outstanding) at 0;
-              margin = g1;
-              contribution = g2;
-              tranche1 = g3;
-              members = t4;
-              tranche2 = g5;
-              calls = t6;
-              short = l6;
-            }) ch cs (o || o6)
-        unfolding allocationOf fallenCall onCalls calls shortfall roomsOf
-        placed-so cs t6 l6 o o6 s v =
-            let five = layer5-is .1 in
-            let called : cs ≡ calls r member loss ranks =
-            s .calls-are ∙ ap (λ (n : ℕ). splitOf (gives n (total (rooms (liveIn marked) (r .cap) (r .called)))) (rooms (liveIn marked) (r .cap) (r .called))) five in
-            record {
-              allocation-is =
-                  rw (
-                    read (r .outstanding),
-                    layer1-is .0,
-                    layer2-is .0,
-                    layer3-is .0,
-                    e4 .1,
-                    layer4-is,
-                    layer5-is .0,
-                    s .total-is,
-                    s .rest-is,
-                    five,
-                  );
-              charges-are = layer4-is;
-              calls-are = called;
-              over-is = rw (v, layer4-is, s .over-is, called);
-            }
+    -- what is called adds to the calls
+    pub called-total : x .calls ≡ total (x .called)
+    called-total = whole-called _ _ _ _ _ _ (d .layer6)
 
   -- what is settled -----------------------------------------------------------------------
 

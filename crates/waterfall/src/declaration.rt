@@ -8,9 +8,7 @@ use figures::IN_DEFAULT;
 use figures::add_to;
 use figures::take_from;
 use figures::write;
-use layers::call_others;
-use layers::charge_others;
-use layers::layer;
+use layers::place;
 use lists::MEMBER_LIMIT;
 ghost use mathlib.Core.Path.{_≡_};
 ghost use Rattle.waterfall.specs.Register.{GivenBack};
@@ -38,44 +36,50 @@ pub fn declare(
             register,
         };
     }
-    // The six layers, which change nothing yet: 19 may still refuse the default.
+    // The six layers change nothing yet: 19 may still refuse the default.
     let at = (member - 1) as usize;
-    let fallen = register.outstanding[at];
-    let margin = layer(loss + fallen, register.margin[at]);
-    let contribution = layer(margin.left, register.contribution[at]);
-    let tranche1 = layer(contribution.left, register.tranche1);
     others[at] = IN_DEFAULT;
-    let charged = charge_others(&others, &register.contribution, tranche1.left, ranks);
-    let tranche2 = layer(tranche1.left - charged.total, register.tranche2);
-    let called = call_others(&others, &register.cap, &register.called, tranche2.left);
-    if charged.over | called.over {
+    let fallen = register.outstanding[at];
+    let placed = place(
+        loss + fallen,
+        register.margin[at],
+        register.contribution[at],
+        register.tranche1,
+        register.tranche2,
+        &others,
+        &register.contribution,
+        &register.cap,
+        &register.called,
+        ranks,
+    );
+    if placed.over {
         return Outcome {
             reply: Reply::Refused(19),
             register,
         };
     }
     // "Each charge leaves its pocket", and the defaulter is in default for good.
-    write(slip, 0, &charged.charges);
-    write(slip, MEMBER_LIMIT, &called.calls);
+    write(slip, 0, &placed.charges);
+    write(slip, MEMBER_LIMIT, &placed.called);
     register.status[at] = IN_DEFAULT;
-    register.margin[at] -= margin.gives;
-    register.contribution[at] -= contribution.gives;
+    register.margin[at] -= placed.margin;
+    register.contribution[at] -= placed.contribution;
     register.outstanding[at] = 0;
-    register.tranche1 -= tranche1.gives;
-    register.tranche2 -= tranche2.gives;
-    take_from(&mut register.contribution, &charged.charges);
-    add_to(&mut register.outstanding, &called.calls, called.total);
-    add_to(&mut register.called, &called.calls, called.total);
+    register.tranche1 -= placed.tranche1;
+    register.tranche2 -= placed.tranche2;
+    take_from(&mut register.contribution, &placed.charges);
+    add_to(&mut register.outstanding, &placed.called, placed.calls);
+    add_to(&mut register.called, &placed.called, placed.calls);
     Outcome {
         reply: Reply::Allocated(Allocation {
             fallen,
-            margin: margin.gives,
-            contribution: contribution.gives,
-            tranche1: tranche1.gives,
-            members: charged.total,
-            tranche2: tranche2.gives,
-            calls: called.total,
-            short: called.left,
+            margin: placed.margin,
+            contribution: placed.contribution,
+            tranche1: placed.tranche1,
+            members: placed.members,
+            tranche2: placed.tranche2,
+            calls: placed.calls,
+            short: placed.short,
         }),
         register,
     }

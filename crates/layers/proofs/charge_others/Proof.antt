@@ -23,12 +23,12 @@ charge-by-rank-requires : tie.Need-charge-by-rank-requires
 charge-by-rank-requires c κs =
     let b = c .before .before .before in
     let a = b .args in (
-      b .pre .sum-fits,
+      b .pre .0,
       record {
-        weights-fit = b .pre .contribution-fits;
-        long = b .pre .contribution-length;
+        weights-fit = b .pre .1 .contribution-fits;
+        long = b .pre .1 .contribution-length;
         as-many = omega arith;
-        ranks-fit = λ k. rw (c .before .read-ranks .ensures) (ranks-fit (map (eqb live) (a .status .now)) (a .ranks .now) (b .pre .well-ranked) k);
+        ranks-fit = λ k. rw (c .before .read-ranks .ensures) (ranks-fit (map (eqb live) (a .status .now)) (a .ranks .now) (b .pre .1 .well-ranked) k);
       },
     )
 

@@ -21,7 +21,7 @@ use Rattle.admission.proofs.Admitted.{Admitted, admitted}
 use Rattle.waterfall.proofs.Default.{placed, margin-gives, contribution-gives, tranche1-gives, tranche2-gives, charges-within, left2, left3, left4, left5, left6}
 use Rattle.figures.proofs.Figures.{figure-same, figure-other, replaced, figure-plus, figure-le, by-member}
 use Rattle.waterfall.proofs.Given.{given-settled, length-calls, length-charged}
-use Rattle.waterfall.proofs.Order.{defaulter-known, settled-contribution, settled-other, defaulter-uncharged, empty1, empty2, empty3, empty4, empty5, empty6, by-rank}
+use Rattle.drill.proofs.Order.{defaulter-known, settled-contribution, settled-other, defaulter-uncharged, empty1, empty2, empty3, empty4, empty5, empty6, by-rank}
 use Rattle.drill.specs.Drill.{Event}
 use Rattle.drill.specs.declared.DrillCall.the-variants.{Default}
 use Rattle.drill.proofs.Laws.{StepLaws, Ordered}

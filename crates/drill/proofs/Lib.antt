@@ -1,5 +1,6 @@
 -- Statement 3 and what it is proved from: the laws of one step, of the opening, and of a list. Last, what the walks of `in_place` share.
 pub mod Laws
+pub mod Order
 pub mod Calls
 pub mod Defaults
 pub mod Runs

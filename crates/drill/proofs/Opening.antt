@@ -16,9 +16,9 @@ use Rattle.sheets.specs.Members.{memberAt, firstAt, secondAt, thirdAt}
 use Rattle.sheets.specs.Sheet.{noRefusal, recordCount, memberRefusalFrom, memberRefusal}
 use Rattle.sheets.specs.declared.columns.Columns.{Columns}
 use Rattle.sheets.proofs.Accepted.{record-in-order, rest-accepted}
-use Rattle.figures.specs.Figures.{live, figure, replace, none}
+use Rattle.figures.specs.Figures.{live, figure, replace, none, statusOf}
 use Rattle.waterfall.specs.Register.{emptyRegister}
-use Rattle.waterfall.specs.Opening.{tranche1Of, tranche2Of, statusOf, openingRegister, openingRefusal, openedOf}
+use Rattle.waterfall.specs.Opening.{tranche1Of, tranche2Of, openingRegister, openingRefusal, openedOf}
 use Rattle.waterfall.specs.declared.Register.{Register}
 use Rattle.figures.proofs.Figures.{figure-other, replaced, figure-none, figure-bound}
 use Rattle.waterfall.proofs.Entered.{accepts, known}

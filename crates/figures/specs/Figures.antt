@@ -1,6 +1,6 @@
 -- Figures by member number: a list of 64 of each kind, member 1's first.
 use Prim.Native.Nat.{ℕ, zero, suc, _-_}
-use mathlib.Core.Bool.{Bool}
+use mathlib.Core.Bool.{Bool, cond}
 use mathlib.Core.List.{List, map}
 use lib.Dec.{eqb}
 use lib.ListN.{getD, set, replicate}
@@ -27,6 +27,10 @@ live = 1
 
 abbrev pub inDefault : ℕ
 inDefault = 2
+
+-- of a member that is present, and of one that is not
+abbrev pub statusOf : Bool → ℕ
+statusOf present = cond present live absent
 
 -- which members are live
 abbrev pub liveIn : List ℕ → List Bool

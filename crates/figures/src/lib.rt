@@ -2,13 +2,13 @@
 use lists::MEMBER_LIMIT;
 ghost use mathlib.Core.Path.{_≡_};
 ghost use mathlib.Core.Bool.{_||_};
-ghost use mathlib.Core.List.{_++_};
+ghost use mathlib.Core.List.{_++_, map};
 ghost use Prim.Native.Nat.{ℕ, _+_, _≤_, _<_};
 ghost use lib.Dec.{eqb, ltb};
 ghost use lib.ListN.{length, getD, take, drop};
 ghost use Rattle.lists.specs.Limits.{memberLimit, amountLimit};
 ghost use Rattle.lists.specs.Sums.{total, plus, minus};
-ghost use Rattle.figures.specs.Figures.{figure, replace};
+ghost use Rattle.figures.specs.Figures.{figure, replace, statusOf};
 
 // The status of a member: not in the register, live, in default.
 pub const ABSENT: u8 = 0;
@@ -82,4 +82,24 @@ pub fn write(lent: &mut [u64], start: usize, figures: &[u64; 64])
         lent[start + i] = figures[i];
         i += 1;
     }
+}
+
+fn status_of(present: bool) -> u8
+    ensures { λ r. ⌜ r ≡ statusOf present ⌝ }
+{
+    if present {
+        return LIVE;
+    }
+    ABSENT
+}
+
+// The statuses of a register of which nobody is in default: who is present is live.
+pub fn statuses(present: [bool; 64]) -> [u8; 64]
+    ensures { λ r. ⌜ r ≡ map statusOf present ⌝ }
+{
+    let mut status = [ABSENT; 64];
+    for i in 0..64 {
+        status[i] = status_of(present[i]);
+    }
+    status
 }

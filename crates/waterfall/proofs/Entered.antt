@@ -18,9 +18,9 @@ use Rattle.sheets.specs.Sheet.{refusal, noRefusal, missized, recordCount, membe
 use Rattle.sheets.specs.declared.Refusal.{Refusal}
 use Rattle.sheets.specs.declared.columns.Columns.{Columns}
 use Rattle.sheets.proofs.Accepted.{record-in-order, rest-accepted, none-refused}
-use Rattle.figures.specs.Figures.{live, inDefault, none}
+use Rattle.figures.specs.Figures.{live, inDefault, none, statusOf}
 use Rattle.waterfall.specs.Register.{GivenBack, emptyRegister}
-use Rattle.waterfall.specs.Opening.{statusOf, enteredOf, openingRegister, openingRefusal, openedOf}
+use Rattle.waterfall.specs.Opening.{enteredOf, openingRegister, openingRefusal, openedOf}
 use Rattle.waterfall.specs.declared.Opened.{Opened}
 use Rattle.waterfall.specs.declared.Register.{Register}
 use Rattle.waterfall.proofs.Given.{given-empty}

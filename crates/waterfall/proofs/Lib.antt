@@ -1,7 +1,6 @@
 -- The laws that the proofs of `waterfall` and the crates above cite.
 pub mod Answer
 pub mod Default
-pub mod Order
 pub mod Given
 pub mod Entered
 pub mod Placing

@@ -6,4 +6,3 @@ pub mod Default
 pub mod Calls
 pub mod View
 pub mod Parts
-pub mod Examples

@@ -1,6 +1,5 @@
 -- Document 01, "The opening register": a register sheet and our own contribution G.
 use Prim.Native.Nat.{ℕ, _-_, _*_, _/_}
-use mathlib.Core.Bool.{Bool, cond}
 use mathlib.Core.List.{List, map}
 use lib.Dec.{ltb}
 use Rattle.lists.specs.Checks.{check, refuses}
@@ -9,7 +8,7 @@ use Rattle.sheets.specs.Columns.{columnsOf}
 use Rattle.sheets.specs.Sheet.{refusal, missized, memberRefusal}
 use Rattle.sheets.specs.declared.Refusal.{Refusal}
 use Rattle.sheets.specs.declared.columns.Columns.{Columns}
-use Rattle.figures.specs.Figures.{none, absent, live}
+use Rattle.figures.specs.Figures.{none, statusOf}
 use Rattle.waterfall.specs.Register.{emptyRegister}
 use Rattle.waterfall.specs.declared.Register.{Register}
 use Rattle.waterfall.specs.declared.Opened.{Opened}
@@ -21,11 +20,7 @@ tranche1Of g = 60 * g / 100
 abbrev pub tranche2Of : ℕ → ℕ
 tranche2Of g = g - tranche1Of g
 
--- "Everyone is live"
-abbrev pub statusOf : Bool → ℕ
-statusOf present = cond present live absent
-
--- "In a register they are margin, contribution (..) and assessment cap."; "nobody has been called; the opening contribution is the
+-- "Everyone is live"; "In a register they are margin, contribution (..) and assessment cap."; "nobody has been called; the opening contribution is the
 -- requirement"
 abbrev pub enteredOf : Columns → ℕ → Register
 enteredOf columns g =

@@ -2,7 +2,7 @@
 use crate::Opened;
 use crate::Register;
 use figures::ABSENT;
-use figures::LIVE;
+use figures::statuses;
 use lists::CONTRIBUTION_FLOOR;
 use lists::MEMBER_LIMIT;
 use lists::SUM_LIMIT;
@@ -11,12 +11,11 @@ use sheets::columns::Columns;
 use sheets::columns::read;
 use sheets::missized;
 ghost use mathlib.Core.Path.{_≡_};
-ghost use mathlib.Core.List.{map};
 ghost use Prim.Native.Nat.{_≤_};
 ghost use Rattle.lists.specs.Limits.{sumLimit};
 ghost use Rattle.sheets.specs.Sheet.{refusal};
 ghost use Rattle.waterfall.specs.Register.{GivenBack, emptyRegister};
-ghost use Rattle.waterfall.specs.Opening.{statusOf, enteredOf, openedOf};
+ghost use Rattle.waterfall.specs.Opening.{enteredOf, openedOf};
 
 // A refused opening: nobody is in the register.
 fn refused(number: u8, position: usize) -> Opened
@@ -36,26 +35,6 @@ fn refused(number: u8, position: usize) -> Opened
             tranche2: 0,
         },
     }
-}
-
-fn status_of(present: bool) -> u8
-    ensures { λ r. ⌜ r ≡ statusOf present ⌝ }
-{
-    if present {
-        return LIVE;
-    }
-    ABSENT
-}
-
-// "Everyone is live"
-fn statuses(present: [bool; 64]) -> [u8; 64]
-    ensures { λ r. ⌜ r ≡ map statusOf present ⌝ }
-{
-    let mut status = [ABSENT; 64];
-    for i in 0..64 {
-        status[i] = status_of(present[i]);
-    }
-    status
 }
 
 // The register with the members of the sheet.

@@ -1,2 +1,3 @@
 -- Document 01's worked examples as one fact.
+pub mod Drills
 pub mod Worked

@@ -9,7 +9,7 @@ use Rattle.sizing.specs.Fund.{targetOf, minimumOf, ownOf, quantumOf}
 use Rattle.sizing.specs.Review.{reviewDue}
 use Rattle.sizing.specs.Examples.{annex, annex-floor, no-review, review}
 use Rattle.waterfall.specs.Default.{defaultSlip}
-use Rattle.waterfall.specs.Examples.{register, ranked, slip, default1, default2, default3, answers, three-defaults}
+use Rattle.worked.specs.Drills.{register, ranked, slip, default1, default2, default3, answers, three-defaults}
 
 pub starred :
     -- "Split of 5 over 3, 3, 4: 1, 1, 3. Of 6: 1, 2, 3. Of 10: 3, 3, 4. Of 5 over 0, 5: 0, 5."

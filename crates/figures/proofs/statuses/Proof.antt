@@ -1,4 +1,4 @@
--- `waterfall::opening::statuses` meets its contract. The loop's invariant: what is filled, with the rest behind it, is the whole list.
+-- `figures::statuses` meets its contract. The loop's invariant: what is filled, with the rest behind it, is the whole list.
 use Prim.Native.Nat.{ℕ, _≤_, _<_, _+_, _-_}
 use mathlib.Core.Path.{_≡_, refl}
 use mathlib.Core.Bool.{Bool, false}
@@ -10,9 +10,9 @@ use lib.ListN.{length, getD, take, drop, length-set, drop-of-length-le}
 use lib.Seq.{drop-cons}
 use Rattle.lists.specs.Limits.{memberLimit}
 use Rattle.lists.proofs.Fill.{fill-turn, fill-done}
-use Rattle.waterfall.specs.Opening.{statusOf}
-use Rattle.waterfall.proofs.opening.statuses.Statement.{statement}
-use Rattle.waterfall.proofs.opening.statuses.Tie as tie
+use Rattle.figures.specs.Figures.{statusOf}
+use Rattle.figures.proofs.statuses.Statement.{statement}
+use Rattle.figures.proofs.statuses.Tie as tie
 
 abbrev Inv-loop : tie.InvT-loop
 Inv-loop present status₀ i₀ status i =

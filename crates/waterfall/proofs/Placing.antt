@@ -23,6 +23,7 @@ use Rattle.layers.specs.Parts.{Roomy, Chargeable, GoesDown}
 use Rattle.layers.specs.declared.Placed.{Placed}
 use Rattle.waterfall.specs.Register.{GivenBack}
 use Rattle.waterfall.specs.Default.{roomsOf, fallenCall, toPlace, onMargin, after1, onContribution, after2, onTranche1, after3, charges, after4, onTranche2, after5, onCalls, calls, shortfall, allocationOf, settledBy, settledOf, overdrawn, defaultRefusal, defaultOf, defaultSlip}
+use Rattle.waterfall.specs.Parts.{Settles}
 use Rattle.waterfall.specs.Reply.{Says}
 use Rattle.waterfall.specs.declared.Allocation.{Allocation}
 use Rattle.waterfall.specs.declared.Outcome.{Outcome}
@@ -52,20 +53,6 @@ pub record Places (r : Register) (member loss : ℕ) (ranks : List ℕ) (allocat
   pub charges-are : charged ≡ charges r member loss ranks
   pub calls-are : called ≡ calls r member loss ranks
   pub over-is : over ≡ overdrawn r member loss ranks
-
--- what can be taken from a register and called
-pub record Settles (r : Register) (member margin contribution tranche1 tranche2 : ℕ) (charges calls : List ℕ) : Type 0 where
-  pub given : GivenBack r
-  pub member-least : 0 < member
-  pub member-most : member ≤ memberLimit
-  pub margin-within : margin ≤ figure (r .margin) member
-  pub contribution-within : contribution ≤ figure (r .contribution) member
-  pub tranche1-within : tranche1 ≤ r .tranche1
-  pub tranche2-within : tranche2 ≤ r .tranche2
-  pub charges-length : length charges ≡ memberLimit
-  pub calls-length : length calls ≡ memberLimit
-  pub charges-within : (k : ℕ) → getD charges k 0 ≤ getD (replace (r .contribution) member (figure (r .contribution) member - contribution)) k 0
-  pub calls-within : (k : ℕ) → getD (r .called) k 0 + getD calls k 0 ≤ amountLimit
 
 -- the layers ---------------------------------------------------------------------------
 

@@ -20,10 +20,10 @@ ghost use Rattle.waterfall.specs.Parts.{Settles};
 
 // "Each charge leaves its pocket; a call adds to what its member has outstanding and to what was called since the last close. The
 // defaulter is then in default for good."
-fn settle(mut register: Register, member: u64, placed: Placed) -> Register
+fn settle(mut register: Register, member: u64, placed: Placed, reply: Reply) -> Outcome
     requires { ⌜ Settles register member (placed .margin) (placed .contribution) (placed .tranche1) (placed .tranche2) (placed .charges) (placed .called) ⌝ }
     requires { ⌜ placed .calls ≡ total (placed .called) ⌝ }
-    ensures { λ r. ⌜ r ≡ settledBy register member (placed .margin) (placed .contribution) (placed .tranche1) (placed .tranche2) (placed .charges) (placed .called) ⌝ }
+    ensures { λ r. ⌜ (r .reply ≡ reply) × (r .register ≡ settledBy register member (placed .margin) (placed .contribution) (placed .tranche1) (placed .tranche2) (placed .charges) (placed .called)) ⌝ }
 {
     let at = (member - 1) as usize;
     register.status[at] = IN_DEFAULT;
@@ -35,7 +35,7 @@ fn settle(mut register: Register, member: u64, placed: Placed) -> Register
     take_from(&mut register.contribution, &placed.charges);
     add_to(&mut register.outstanding, &placed.called, placed.calls);
     add_to(&mut register.called, &placed.called, placed.calls);
-    register
+    Outcome { reply, register }
 }
 
 pub fn declare(
@@ -83,18 +83,15 @@ pub fn declare(
     }
     write(slip, 0, &placed.charges);
     write(slip, MEMBER_LIMIT, &placed.called);
-    let after = settle(register, member, placed);
-    Outcome {
-        reply: Reply::Allocated(Allocation {
-            fallen,
-            margin: placed.margin,
-            contribution: placed.contribution,
-            tranche1: placed.tranche1,
-            members: placed.members,
-            tranche2: placed.tranche2,
-            calls: placed.calls,
-            short: placed.short,
-        }),
-        register: after,
-    }
+    let reply = Reply::Allocated(Allocation {
+        fallen,
+        margin: placed.margin,
+        contribution: placed.contribution,
+        tranche1: placed.tranche1,
+        members: placed.members,
+        tranche2: placed.tranche2,
+        calls: placed.calls,
+        short: placed.short,
+    });
+    settle(register, member, placed, reply)
 }

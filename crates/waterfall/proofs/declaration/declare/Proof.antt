@@ -1,6 +1,6 @@
 -- `waterfall::declaration::declare` meets its contract.
 use Prim.Native.Nat.{ℕ, _+_, _-_, _≤_, _<_}
-use mathlib.Core.Path.{_≡_, sym, _∙_}
+use mathlib.Core.Path.{_≡_, refl, sym, _∙_}
 use native.Mathlib.Omega.{arith}
 use borrow.Author.Needs.{needs}
 use lib.ListN.{length, getD}
@@ -8,6 +8,9 @@ use Rattle.lists.specs.Limits.{memberLimit}
 use Rattle.lists.specs.Sums.{total}
 use Rattle.admission.specs.Admission.{admission}
 use Rattle.waterfall.specs.Parts.{Settles}
+use Rattle.waterfall.specs.declared.Outcome.{Outcome}
+use Rattle.waterfall.specs.declared.Register.{Register}
+use Rattle.waterfall.specs.declared.Reply.{Reply}
 use Rattle.waterfall.proofs.Placing.{Placeable, Places, refused-early, refused-late, accepted-so, placeable, outstanding-fits, placed-fits, chargeable, roomy, placed-so, called-total, settles-so, slip-written}
 use Rattle.waterfall.proofs.declaration.declare.Statement.{statement}
 use Rattle.waterfall.proofs.declaration.declare.Tie as tie
@@ -141,13 +144,17 @@ settle-requires c κs =
 same-length : tie.Need-same-length
 same-length c = search needs
 
+as-outcome : (o : Outcome) (y : Reply) (x : Register) → o .reply ≡ y → o .register ≡ x → o ≡ record { reply = y; register = x }
+as-outcome o y x p q = λ i. record { reply = p i; register = q i }
+
 returns-3 : tie.Need-returns-3
 returns-3 c =
     let w = c .before in
     let x = tested w in
     let a = asked x .args in
     let slip = slip-written (x .place .result .charges) (x .place .result .called) (a .slip .now) _ _ (settled x .charges-length) (w .before .before .before .before .before .before .before .before .write .ensures) (w .before .before .write2 .ensures) in
-    accepted-so (a .t1) (a .member) (a .loss) (a .ranks .now) (a .slip .now) (asked x .pre) _ _ _ _ (placed x) (early-none (passed x)) (w .before .before .before .before .before .before .before .before .before .before .before .before .if2 .left) _ (c .settle .ensures) _ slip
+    rw (as-outcome (c .settle .result) _ _ (c .settle .ensures .0) (c .settle .ensures .1))
+    (accepted-so (a .t1) (a .member) (a .loss) (a .ranks .now) (a .slip .now) (asked x .pre) _ _ _ _ (placed x) (early-none (passed x)) (w .before .before .before .before .before .before .before .before .before .before .before .before .if2 .left) _ refl _ slip)
 
 pub declare-spec : {M : Type 1} → statement M
 declare-spec =

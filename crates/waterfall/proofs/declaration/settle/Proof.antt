@@ -1,6 +1,6 @@
 -- `waterfall::declaration::settle` meets its contract.
 use Prim.Native.Nat.{ℕ, _-_, _≤_, _<_, zero-le}
-use mathlib.Core.Path.{_≡_}
+use mathlib.Core.Path.{_≡_, refl}
 use native.Mathlib.Omega.{arith}
 use borrow.Author.Needs.{needs}
 use lib.ListN.{getD, length-set}
@@ -91,7 +91,7 @@ add-to-requires-2 c κs =
 returns : tie.Need-returns
 returns c =
     let b = c .before .before .before .before .before .before .before .before .before .before .before .before .before .before in
-    rw (margin-is b, contribution-is b, c .before .before .before .before .before .before .before .before .take-from .ensures, c .before .before .before .before .add-to .ensures, c .add-to2 .ensures)
+    (refl, rw (margin-is b, contribution-is b, c .before .before .before .before .before .before .before .before .take-from .ensures, c .before .before .before .before .add-to .ensures, c .add-to2 .ensures))
 
 pub settle-spec : {M : Type 1} → statement M
 settle-spec =

@@ -1,10 +1,11 @@
--- Layers one after the other, and the calls of layer 6.
-use Prim.Native.Nat.{ℕ, _-_, _≤_}
+-- Layers one after the other, the calls of layer 6, and what the slip receives.
+use Prim.Native.Nat.{ℕ, _+_, _-_, _≤_}
 use mathlib.Core.Path.{_≡_, refl, ap, sym, _∙_}
 use mathlib.Core.Bool.{Bool, false}
-use mathlib.Core.List.{List}
+use mathlib.Core.List.{List, _++_}
 use native.Mathlib.Omega.{arith}
-use lib.ListN.{length, replicate}
+use lib.ListN.{length, take, drop, replicate}
+use lib.Seq.{take-at, drop-at, drop-drop}
 use Rattle.lists.specs.Limits.{memberLimit}
 use Rattle.lists.specs.Sums.{total}
 use Rattle.lists.proofs.Sums.{zeros, getD-zeros}
@@ -53,3 +54,15 @@ called-none rooms left h e =
 -- the calls add to what layer 6 gives
 pub whole-called : (rooms : List ℕ) (left : ℕ) (cs : List ℕ) (t rest : ℕ) (over : Bool) → Calls rooms left cs t rest over → t ≡ total cs
 whole-called rooms left cs t rest over s = s .total-is ∙ sym (ap total (s .calls-are) ∙ total-within (gives left (total rooms)) rooms (omega arith))
+
+-- the slip: two parts written one after the other
+pub slip-written : (charged called slip s1 s2 : List ℕ) → length charged ≡ memberLimit
+    → s1 ≡ take 0 slip ++ charged ++ drop (0 + memberLimit) slip
+    → s2 ≡ take memberLimit s1 ++ called ++ drop (memberLimit + memberLimit) s1
+    → s2 ≡ charged ++ called ++ drop (memberLimit + memberLimit) slip
+slip-written charged called slip s1 s2 l e1 e2 =
+    let front : take memberLimit s1 ≡ charged = rw e1 (take-at charged (drop memberLimit slip) memberLimit l) in
+    let back : drop memberLimit s1 ≡ drop memberLimit slip = rw e1 (drop-at charged (drop memberLimit slip) memberLimit l) in
+    let rest : drop (memberLimit + memberLimit) s1 ≡ drop (memberLimit + memberLimit) slip =
+    sym (drop-drop memberLimit memberLimit s1) ∙ ap (drop memberLimit) back ∙ drop-drop memberLimit memberLimit slip in
+    e2 ∙ rw (front, rest)

@@ -1,14 +1,17 @@
 // What a default takes, layer by layer, from lists of figures: document 01, "Declaring a default". It knows nothing of registers.
 // `status` is that of the members once the defaulter is in default, so that the live ones are the others.
 use figures::LIVE;
+use figures::write;
+use lists::MEMBER_LIMIT;
 use ranks::Charged;
 use ranks::charge_by_rank;
 use split::split;
 ghost use mathlib.Core.Path.{_≡_};
 ghost use mathlib.Core.Bool.{cond};
-ghost use Prim.Native.Nat.{_-_, _≤_};
+ghost use mathlib.Core.List.{_++_};
+ghost use Prim.Native.Nat.{_+_, _-_, _≤_};
 ghost use lib.Dec.{eqb};
-ghost use lib.ListN.{length};
+ghost use lib.ListN.{length, drop};
 ghost use Rattle.lists.specs.Limits.{memberLimit, allocationLimit};
 ghost use Rattle.lists.specs.Sums.{total, keep};
 ghost use Rattle.split.specs.Split.{exceeds};
@@ -200,4 +203,13 @@ pub fn place<'a>(
         called: calls,
         over: fourth.over | sixth.over,
     }
+}
+
+// "The slip's first 64 numbers receive each member's layer 4 charge, the next 64 its call": the slip is a lent buffer.
+pub fn tell(placed: Placed, slip: &mut [u64])
+    requires { ⌜ (length (placed .charges) ≡ memberLimit) × (length (placed .called) ≡ memberLimit) × (memberLimit + memberLimit ≤ length (now slip)) ⌝ }
+    ensures { λ _. ⌜ now (slip .exit) ≡ placed .charges ++ placed .called ++ drop (memberLimit + memberLimit) (now (slip .entry)) ⌝ }
+{
+    write(slip, 0, &placed.charges);
+    write(slip, MEMBER_LIMIT, &placed.called);
 }

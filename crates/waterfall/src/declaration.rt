@@ -7,39 +7,15 @@ use admission::default_refusal;
 use figures::IN_DEFAULT;
 use figures::add_to;
 use figures::take_from;
-use figures::write;
-use layers::Placed;
 use layers::place;
-use lists::MEMBER_LIMIT;
+use layers::tell;
 ghost use mathlib.Core.Path.{_≡_};
-ghost use Rattle.lists.specs.Sums.{total};
 ghost use Rattle.waterfall.specs.Register.{GivenBack};
 ghost use Rattle.waterfall.specs.Reply.{Says};
-ghost use Rattle.waterfall.specs.Default.{allocationOf, settledBy, defaultRefusal, defaultOf, defaultSlip};
-ghost use Rattle.waterfall.specs.Parts.{Settles};
-
-// "Each charge leaves its pocket; a call adds to what its member has outstanding and to what was called since the last close. The
-// defaulter is then in default for good."
-fn settle(mut register: Register, member: u64, placed: Placed, reply: Reply) -> Outcome
-    requires { ⌜ Settles register member (placed .margin) (placed .contribution) (placed .tranche1) (placed .tranche2) (placed .charges) (placed .called) ⌝ }
-    requires { ⌜ placed .calls ≡ total (placed .called) ⌝ }
-    ensures { λ r. ⌜ (r .reply ≡ reply) × (r .register ≡ settledBy register member (placed .margin) (placed .contribution) (placed .tranche1) (placed .tranche2) (placed .charges) (placed .called)) ⌝ }
-{
-    let at = (member - 1) as usize;
-    register.status[at] = IN_DEFAULT;
-    register.margin[at] -= placed.margin;
-    register.contribution[at] -= placed.contribution;
-    register.outstanding[at] = 0;
-    register.tranche1 -= placed.tranche1;
-    register.tranche2 -= placed.tranche2;
-    take_from(&mut register.contribution, &placed.charges);
-    add_to(&mut register.outstanding, &placed.called, placed.calls);
-    add_to(&mut register.called, &placed.called, placed.calls);
-    Outcome { reply, register }
-}
+ghost use Rattle.waterfall.specs.Default.{allocationOf, defaultRefusal, defaultOf, defaultSlip};
 
 pub fn declare(
-    register: Register,
+    mut register: Register,
     member: u64,
     loss: u64,
     ranks: &[u8],
@@ -81,17 +57,28 @@ pub fn declare(
             register,
         };
     }
-    write(slip, 0, &placed.charges);
-    write(slip, MEMBER_LIMIT, &placed.called);
-    let reply = Reply::Allocated(Allocation {
-        fallen,
-        margin: placed.margin,
-        contribution: placed.contribution,
-        tranche1: placed.tranche1,
-        members: placed.members,
-        tranche2: placed.tranche2,
-        calls: placed.calls,
-        short: placed.short,
-    });
-    settle(register, member, placed, reply)
+    // "Each charge leaves its pocket", and the defaulter is in default for good.
+    tell(placed, slip);
+    register.status[at] = IN_DEFAULT;
+    register.margin[at] -= placed.margin;
+    register.contribution[at] -= placed.contribution;
+    register.outstanding[at] = 0;
+    register.tranche1 -= placed.tranche1;
+    register.tranche2 -= placed.tranche2;
+    take_from(&mut register.contribution, &placed.charges);
+    add_to(&mut register.outstanding, &placed.called, placed.calls);
+    add_to(&mut register.called, &placed.called, placed.calls);
+    Outcome {
+        reply: Reply::Allocated(Allocation {
+            fallen,
+            margin: placed.margin,
+            contribution: placed.contribution,
+            tranche1: placed.tranche1,
+            members: placed.members,
+            tranche2: placed.tranche2,
+            calls: placed.calls,
+            short: placed.short,
+        }),
+        register,
+    }
 }

@@ -1,17 +1,16 @@
 -- `waterfall::declaration::declare` meets its contract.
-use Prim.Native.Nat.{ℕ, _+_, _-_, _≤_, _<_}
-use mathlib.Core.Path.{_≡_, refl, sym, _∙_}
+use Prim.Native.Nat.{ℕ, _+_, _-_, _≤_, _<_, zero-le}
+use mathlib.Core.Path.{_≡_, sym, _∙_}
 use native.Mathlib.Omega.{arith}
 use borrow.Author.Needs.{needs}
-use lib.ListN.{length, getD}
+use lib.ListN.{length, getD, length-set}
 use Rattle.lists.specs.Limits.{memberLimit}
 use Rattle.lists.specs.Sums.{total}
+use Rattle.lists.proofs.Places.{set-all}
+use Rattle.figures.specs.Figures.{figure}
+use Rattle.figures.proofs.Figures.{figure-at}
 use Rattle.admission.specs.Admission.{admission}
-use Rattle.waterfall.specs.Parts.{Settles}
-use Rattle.waterfall.specs.declared.Outcome.{Outcome}
-use Rattle.waterfall.specs.declared.Register.{Register}
-use Rattle.waterfall.specs.declared.Reply.{Reply}
-use Rattle.waterfall.proofs.Placing.{Placeable, Places, refused-early, refused-late, accepted-so, placeable, outstanding-fits, placed-fits, chargeable, roomy, placed-so, called-total, settles-so, slip-written}
+use Rattle.waterfall.proofs.Placing.{Placeable, Places, Settles, refused-early, refused-late, accepted-so, placeable, outstanding-fits, placed-fits, chargeable, roomy, placed-so, called-total, settles-so}
 use Rattle.waterfall.proofs.declaration.declare.Statement.{statement}
 use Rattle.waterfall.proofs.declaration.declare.Tie as tie
 
@@ -32,6 +31,13 @@ module _ (c : tie.Else1) where
 
   at : (0 < begun .args .member) × (begun .args .member ≤ memberLimit)
   at = (can .0 .member-least, can .0 .member-most)
+
+  -- the defaulter's margin and contribution, as they are read
+  margin-is : let a = begun .args in figure (a .t1 .margin) (a .member) ≡ getD (a .t1 .margin) (a .member - 1) 0
+  margin-is = figure-at _ _ (at .0)
+
+  contribution-is : let a = begun .args in figure (a .t1 .contribution) (a .member) ≡ getD (a .t1 .contribution) (a .member - 1) 0
+  contribution-is = figure-at _ _ (at .0)
 
 -- what is placed
 module _ (s : tie.After-place) where
@@ -68,8 +74,8 @@ module _ (s : tie.After-place) where
       called-total (a .t1) (a .member) (a .loss) (a .ranks .now) (can passed .0) (s .place .result) (s .place .ensures)
 
 -- what comes before the register changes
-abbrev tested : tie.After-slice-known3 → tie.After-place
-tested w = w .before .before .before .before .before .before .before .before .before .before .before .before .before
+abbrev tested : tie.After-slice-known2 → tie.After-place
+tested w = w .before .before .before .before .before
 
 default-refusal-requires : tie.Need-default-refusal-requires
 default-refusal-requires c κs = search needs
@@ -126,35 +132,91 @@ returns-2 c =
     let a = asked x .args in
     refused-late (a .t1) (a .member) (a .loss) (a .ranks .now) (a .slip .now) (asked x .pre) (early-none (passed x)) (sym (placed x .over-is) ∙ c .if2 .taken)
 
-write-requires : tie.Need-write-requires
-write-requires c κs =
-    let x = c .before .before .before .before in
-    (settled x .charges-length, omega (arith, can (passed x) .1))
+tell-requires : tie.Need-tell-requires
+tell-requires c κs =
+    let x = c .before .before in
+    (settled x .charges-length, settled x .calls-length, can (passed x) .1)
 
-write-requires-2 : tie.Need-write-requires-2
-write-requires-2 c κs =
-    let x = c .before .before .before .before .before .before .before .before .before .before in
-    (settled x .calls-length, omega (arith, c .before .before .before .before .before .write .kept .0, can (passed x) .1))
+element-write-register : tie.Need-element-write-register
+element-write-register c = omega (arith, at (passed (tested c)))
 
-settle-requires : tie.Need-settle-requires
-settle-requires c κs =
-    let x = tested c in
-    (settled x, whole x)
+mul-register : tie.Need-mul-register
+mul-register c = omega (arith, at (passed (tested c)))
+
+element-copy-out-register : tie.Need-element-copy-out-register
+element-copy-out-register c = omega (arith, at (passed (tested c)))
+
+sub-register : tie.Need-sub-register
+sub-register c =
+    let x = tested (c .before) in
+    omega (arith, settled x .margin-within, margin-is (passed x))
+
+element-write-register-2 : tie.Need-element-write-register-2
+element-write-register-2 c = omega (arith, at (passed (tested (c .before))))
+
+mul-register-2 : tie.Need-mul-register-2
+mul-register-2 c = omega (arith, at (passed (tested (c .before))))
+
+element-copy-out-register-2 : tie.Need-element-copy-out-register-2
+element-copy-out-register-2 c = omega (arith, at (passed (tested (c .before))))
+
+sub-register-2 : tie.Need-sub-register-2
+sub-register-2 c =
+    let x = tested (c .before .before) in
+    omega (arith, settled x .contribution-within, contribution-is (passed x))
+
+element-write-register-3 : tie.Need-element-write-register-3
+element-write-register-3 c = omega (arith, at (passed (tested (c .before .before))))
+
+mul-register-3 : tie.Need-mul-register-3
+mul-register-3 c = omega (arith, at (passed (tested (c .before .before))))
+
+element-write-register-4 : tie.Need-element-write-register-4
+element-write-register-4 c = omega (arith, at (passed (tested (c .before .before))))
+
+sub-register-3 : tie.Need-sub-register-3
+sub-register-3 c = omega (arith, settled (tested (c .before .before)) .tranche1-within)
+
+sub-register-4 : tie.Need-sub-register-4
+sub-register-4 c = omega (arith, settled (tested (c .before .before)) .tranche2-within)
+
+take-from-requires : tie.Need-take-from-requires
+take-from-requires c κs =
+    let x = tested (c .before .before .before .before .before) in
+    let p = settled x in
+    ((simp length-set (p .given .contribution-length), p .charges-length), rw (contribution-is (passed x)) at (p .charges-within))
+
+add-to-requires : tie.Need-add-to-requires
+add-to-requires c κs =
+    let x = tested (c .before .before .before .before .before .before .before .before .before) in
+    let a = asked x .args in
+    let p = settled x in (
+      (simp length-set (p .given .outstanding-length), p .calls-length, whole x),
+      λ k.
+          omega (
+            arith,
+            set-all (λ n y. y ≤ getD (a .t1 .called) n 0) (a .t1 .outstanding) (a .member - 1) 0 (p .given .outstanding-fits) zero-le k,
+            p .calls-within k,
+          ),
+    )
+
+add-to-requires-2 : tie.Need-add-to-requires-2
+add-to-requires-2 c κs =
+    let x = tested (c .before .before .before .before .before .before .before .before .before .before .before .before .before) in
+    let p = settled x in
+    ((p .given .called-length, p .calls-length, whole x), p .calls-within)
 
 same-length : tie.Need-same-length
 same-length c = search needs
 
-as-outcome : (o : Outcome) (y : Reply) (x : Register) → o .reply ≡ y → o .register ≡ x → o ≡ record { reply = y; register = x }
-as-outcome o y x p q = λ i. record { reply = p i; register = q i }
-
 returns-3 : tie.Need-returns-3
 returns-3 c =
-    let w = c .before in
+    let w = c .before .before .before .before .before .before .before .before .before .before .before .before .before .before in
     let x = tested w in
+    let e = passed x in
     let a = asked x .args in
-    let slip = slip-written (x .place .result .charges) (x .place .result .called) (a .slip .now) _ _ (settled x .charges-length) (w .before .before .before .before .before .before .before .before .write .ensures) (w .before .before .write2 .ensures) in
-    rw (as-outcome (c .settle .result) _ _ (c .settle .ensures .0) (c .settle .ensures .1))
-    (accepted-so (a .t1) (a .member) (a .loss) (a .ranks .now) (a .slip .now) (asked x .pre) _ _ _ _ (placed x) (early-none (passed x)) (w .before .before .before .before .before .before .before .before .before .before .before .before .if2 .left) _ refl _ slip)
+    accepted-so (a .t1) (a .member) (a .loss) (a .ranks .now) (a .slip .now) (asked x .pre) _ _ _ _ (placed x) (early-none e) (w .before .before .before .before .if2 .left) _
+    (rw (margin-is e, contribution-is e, c .before .before .before .before .before .before .before .before .take-from .ensures, c .before .before .before .before .add-to .ensures, c .add-to2 .ensures)) _ (w .before .before .tell .ensures)
 
 pub declare-spec : {M : Type 1} → statement M
 declare-spec =
@@ -173,8 +235,22 @@ declare-spec =
     element-copy-out-place-2
     place-requires
     returns-2
-    write-requires
-    write-requires-2
-    settle-requires
+    tell-requires
+    element-write-register
+    mul-register
+    element-copy-out-register
+    sub-register
+    element-write-register-2
+    mul-register-2
+    element-copy-out-register-2
+    sub-register-2
+    element-write-register-3
+    mul-register-3
+    element-write-register-4
+    sub-register-3
+    sub-register-4
+    take-from-requires
+    add-to-requires
+    add-to-requires-2
     same-length
     returns-3)

@@ -5,6 +5,7 @@ use mathlib.Core.Bool.{_&&_}
 use mathlib.Core.List.{List, [], _∷_}
 use lib.Dec.{eqb, ltb}
 use lib.ListN.{length, getD, take, drop}
+use Rattle.lists.specs.Limits.{missingAmount}
 use Rattle.lists.specs.Checks.{check}
 use Rattle.lists.specs.Texts.{ascii}
 use Rattle.numbers.specs.Numbers.{isEmpty, readOf}
@@ -41,7 +42,7 @@ fieldOf blank limit s = check (isEmpty (trimmed s)) (Field.Value blank) (within 
 
 -- "A blank amount is written as FFFFFFFF, missing"; "An amount of 4,294,967,295 typed as a number is refused the same way, since it would read as missing."
 abbrev pub amountOf : List ℕ → Field
-amountOf = fieldOf 4294967295 4294967295
+amountOf = fieldOf missingAmount missingAmount
 
 -- "any other blank cell as all bits set, which no check accepts. A blank is never written as zero."
 abbrev pub byteOf : List ℕ → Field

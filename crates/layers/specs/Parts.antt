@@ -37,23 +37,23 @@ pub record Calls (rooms : List ℕ) (left : ℕ) (calls : List ℕ) (called rest
   pub over-is : over ≡ exceeds calls rooms
 
 -- a layer gives `given` of `left`, and leaves `rest`
-abbrev pub Layer : ℕ → ℕ → ℕ → ℕ → Type 0
-Layer left has given rest = (given ≡ gives left has) × (rest ≡ left - gives left has)
+abbrev pub Leaves : ℕ → ℕ → ℕ → ℕ → Type 0
+Leaves left has given rest = (given ≡ gives left has) × (rest ≡ left - gives left has)
 
 -- a sum goes down the six layers; `left1` to `left5` are what is left after each
-pub record GoesDown (sum margin own tranche1 tranche2 : ℕ) (others : List Bool) (contribution rooms ranks : List ℕ) (placed : Placed) : Type 0 where
+pub record GoesDown (sum margin contribution tranche1 tranche2 : ℕ) (others : List Bool) (contributions rooms ranks : List ℕ) (placed : Placed) : Type 0 where
   pub left1 : ℕ
   pub left2 : ℕ
   pub left3 : ℕ
   pub left5 : ℕ
-  pub layer1 : Layer sum margin (placed .margin) left1
-  pub layer2 : Layer left1 own (placed .contribution) left2
-  pub layer3 : Layer left2 tranche1 (placed .tranche1) left3
-  pub charges-are : placed .charges ≡ chargesOf left3 (keep others contribution) ranks
+  pub layer1 : Leaves sum margin (placed .margin) left1
+  pub layer2 : Leaves left1 contribution (placed .contribution) left2
+  pub layer3 : Leaves left2 tranche1 (placed .tranche1) left3
+  pub charges-are : placed .charges ≡ chargesOf left3 (keep others contributions) ranks
   pub members-are : placed .members ≡ total (placed .charges)
-  pub layer5 : Layer (left3 - placed .members) tranche2 (placed .tranche2) left5
+  pub layer5 : Leaves (left3 - placed .members) tranche2 (placed .tranche2) left5
   pub over4 : Bool
   pub over6 : Bool
-  pub over4-is : over4 ≡ exceeds (placed .charges) contribution
+  pub over4-is : over4 ≡ exceeds (placed .charges) contributions
   pub layer6 : Calls rooms left5 (placed .called) (placed .calls) (placed .short) over6
   pub over-is : placed .over ≡ (over4 || over6)

@@ -171,22 +171,22 @@ fn call_others<'a>(
 pub fn place<'a>(
     sum: u64,
     margin: u64,
-    own: u64,
+    contribution: u64,
     tranche1: u64,
     tranche2: u64,
     status: &'a [u8; 64],
-    contribution: &'a [u64; 64],
+    contributions: &'a [u64; 64],
     cap: &'a [u64; 64],
     called: &'a [u64; 64],
     ranks: &[u8],
 ) -> Placed
-    requires { ⌜ (sum ≤ allocationLimit) × Chargeable (now status) (now contribution) (now ranks) × Roomy (now status) (now cap) (now called) ⌝ }
-    ensures { λ r. ⌜ GoesDown sum margin own tranche1 tranche2 (liveIn (now (status .entry))) (now (contribution .entry)) (rooms (liveIn (now (status .entry))) (now (cap .entry)) (now (called .entry))) (now (ranks .entry)) r ⌝ }
+    requires { ⌜ (sum ≤ allocationLimit) × Chargeable (now status) (now contributions) (now ranks) × Roomy (now status) (now cap) (now called) ⌝ }
+    ensures { λ r. ⌜ GoesDown sum margin contribution tranche1 tranche2 (liveIn (now (status .entry))) (now (contributions .entry)) (rooms (liveIn (now (status .entry))) (now (cap .entry)) (now (called .entry))) (now (ranks .entry)) r ⌝ }
 {
     let first = layer(sum, margin);
-    let second = layer(first.left, own);
+    let second = layer(first.left, contribution);
     let third = layer(second.left, tranche1);
-    let fourth = charge_others(status, contribution, third.left, ranks);
+    let fourth = charge_others(status, contributions, third.left, ranks);
     let fifth = layer(third.left - fourth.total, tranche2);
     let sixth = call_others(status, cap, called, fifth.left);
     let charges = fourth.charges;

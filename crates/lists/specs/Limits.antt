@@ -13,6 +13,10 @@ rankLimit = 64
 abbrev pub amountLimit : ℕ
 amountLimit = 400_000_000
 
+-- "Hexadecimal FFFFFFFF means missing."
+abbrev pub missingAmount : ℕ
+missingAmount = 0xffffffff
+
 -- "a sum handed alone (..) is 0 to 25,600,000,000"
 abbrev pub sumLimit : ℕ
 sumLimit = 25_600_000_000

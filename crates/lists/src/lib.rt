@@ -11,6 +11,9 @@ pub const RANK_LIMIT: u8 = 64;
 // "An amount is 0 to 400,000,000"
 pub const AMOUNT_LIMIT: u64 = 400_000_000;
 
+// "Hexadecimal FFFFFFFF means missing."
+pub const MISSING_AMOUNT: u64 = 0xffff_ffff;
+
 // "a sum handed alone (..) is 0 to 25,600,000,000"
 pub const SUM_LIMIT: u64 = 25_600_000_000;
 

@@ -5,6 +5,7 @@ use cells::commas;
 use cells::content;
 use cells::read_cell;
 use cells::trim;
+use lists::MISSING_AMOUNT;
 use words::same;
 ghost use mathlib.Core.Path.{_≡_};
 ghost use Prim.Native.Nat.{_+_, _≤_};
@@ -13,9 +14,6 @@ ghost use Rattle.buffers.specs.Buffer.{written};
 ghost use Rattle.cells.specs.Cells.{cellsOf};
 ghost use Rattle.rows.specs.Rows.{namedOf, fourOf, fiveOf, memberRow, stressRow, rowOf, bytesOf};
 ghost use Rattle.rows.specs.Parts.{isBad, valueOf};
-
-// A missing amount, which no number may be.
-const MISSING: u64 = 4294967295;
 
 pub enum Kind {
     Register,
@@ -119,9 +117,9 @@ fn four(s: &[u8]) -> Row
     }
     member_row(
         read_cell(s, 0, 255, 256),
-        read_cell(s, 1, MISSING, MISSING),
-        read_cell(s, 2, MISSING, MISSING),
-        read_cell(s, 3, MISSING, MISSING),
+        read_cell(s, 1, MISSING_AMOUNT, MISSING_AMOUNT),
+        read_cell(s, 2, MISSING_AMOUNT, MISSING_AMOUNT),
+        read_cell(s, 3, MISSING_AMOUNT, MISSING_AMOUNT),
     )
 }
 
@@ -137,7 +135,7 @@ fn five(s: &[u8]) -> Row
         read_cell(s, 1, 65535, 65536),
         read_cell(s, 2, 255, 256),
         read_cell(s, 3, 255, 256),
-        read_cell(s, 4, MISSING, MISSING),
+        read_cell(s, 4, MISSING_AMOUNT, MISSING_AMOUNT),
     )
 }
 

@@ -4,6 +4,7 @@ use mathlib.Core.Bool.{Bool, _||_}
 use mathlib.Core.List.{List}
 use lib.Dec.{eqb, ltb}
 use lib.ListN.{getD, drop}
+use Rattle.lists.specs.Limits.{missingAmount}
 
 -- the bytes of a sheet from record i on, counted from 0: the first 16 of them are the record
 abbrev pub recordAt : List ℕ → ℕ → List ℕ
@@ -20,9 +21,6 @@ unfoldable pub le32 : List ℕ → ℕ → ℕ
 le32 s at = byte s at + byte s (at + 1) * 256 + byte s (at + 2) * 65_536 + byte s (at + 3) * 16_777_216
 
 -- "Hexadecimal FFFFFFFF means missing."
-abbrev pub missingAmount : ℕ
-missingAmount = 0xffffffff
-
 abbrev pub absentAmount : ℕ → Bool
 absentAmount amount = eqb amount missingAmount
 

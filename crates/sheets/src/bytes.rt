@@ -1,12 +1,10 @@
 // Bytes of a sheet as numbers, and the tests on one number.
 // Tests are joined by `|` and `&`, as the definitions join them by `||` and `&&`: they do not branch, so the two are equal as they stand.
+use lists::MISSING_AMOUNT;
 ghost use mathlib.Core.Path.{_≡_};
 ghost use Prim.Native.Nat.{_+_, _≤_, _<_};
 ghost use lib.ListN.{length};
 ghost use Rattle.sheets.specs.Bytes.{byte, le16, le32, absentAmount, beyond, nonzero};
-
-// "Hexadecimal FFFFFFFF means missing."
-const MISSING_AMOUNT: u64 = 0xffff_ffff;
 
 fn wide(x: u8) -> u64
     ensures { λ r. ⌜ (r ≡ x) × (r ≤ 255) ⌝ }

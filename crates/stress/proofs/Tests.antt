@@ -9,10 +9,10 @@ use native.Mathlib.Omega.{arith}
 use borrow.Author.Tests.{lt-ltb, le-ltb, le-leb, lt-leb, ne-eqb, eqb-true}
 use lib.Dec.{eqb, leb, ltb}
 use Rattle.lists.specs.Checks.{check}
-use Rattle.lists.specs.Limits.{memberLimit, amountLimit, dayLimit, scenarioLimit, weakLimit}
+use Rattle.lists.specs.Limits.{missingAmount, memberLimit, amountLimit, dayLimit, scenarioLimit, weakLimit}
 use Rattle.lists.proofs.Checks.{check-true, check-false, check-no, check-not-no, neither, both}
 use Rattle.lists.proofs.Tests.{positive-sum, positive-multiple, zero-test, not-or, not-both}
-use Rattle.sheets.specs.Bytes.{byte, le16, le32, missingAmount, absentAmount, beyond, nonzero}
+use Rattle.sheets.specs.Bytes.{byte, le16, le32, absentAmount, beyond, nonzero}
 use Rattle.stress.specs.Stress.{dayAt, scenarioAt, stressedAt, weakAt, lossAt, sameBlock, flagsBefore, passed, stressBeyond, stressOutside, stressRises, sixthWeak, stressOf}
 use Rattle.stress.specs.Parts.{le64, stressFaulty, laterBlock}
 use Rattle.stress.specs.declared.Before.{Before}

@@ -34,7 +34,7 @@ sub-layer c =
       arith,
       f .charge-others .ensures .1,
       ap total (f .charge-others .ensures .0),
-      charges-within (l .layer3 .result .left) (keep (liveIn (a .status .now)) (a .contribution .now)) (a .ranks .now),
+      charges-within (l .layer3 .result .left) (keep (liveIn (a .status .now)) (a .contributions .now)) (a .ranks .now),
     )
 
 layer-requires-4 : tie.Need-layer-requires-4

@@ -52,3 +52,7 @@ not-or false b = refl
 pub not-both : (a b c d : Bool) → (a && b) ≡ false → (a && c) ≡ (a && (c || (b && d)))
 not-both true b c d e = rw (e, or-false)
 not-both false b c d e = refl
+
+-- an amount fits the room below a bound where the sum is within the bound, the two being read as `s` and `b`
+pub room-test : (s b stands bound amount : ℕ) → s ≡ stands → b ≡ bound → stands ≤ bound → ltb (b - s) amount ≡ ltb bound (stands + amount)
+room-test s b stands bound amount p q h = same-test (b - s) amount bound (stands + amount) (λ l. omega arith) (λ l. omega arith)

@@ -29,7 +29,7 @@ contributionFloor = 10_000
 abbrev pub allocationLimit : ℕ
 allocationLimit = 26_000_000_000
 
--- "a stress sheet has 1 to 4,096 records: bytes 0-1 day (1 to 184), 2-3 scenario (1 to 64)"
+-- "A stress sheet has 1 to 4,096 records: bytes 0-1 day (1 to 184), 2-3 scenario (1 to 64)"
 abbrev pub stressLimit : ℕ
 stressLimit = 4_096
 

@@ -20,7 +20,7 @@ pub const SUM_LIMIT: u64 = 25_600_000_000;
 // "contribution (at least 10,000: one crore, ..)"; the least requirement
 pub const CONTRIBUTION_FLOOR: u64 = 10_000;
 
-// "a stress sheet has 1 to 4,096 records: bytes 0-1 day (1 to 184), 2-3 scenario (1 to 64)"
+// "A stress sheet has 1 to 4,096 records: bytes 0-1 day (1 to 184), 2-3 scenario (1 to 64)"
 pub const STRESS_LIMIT: usize = 4_096;
 
 pub const DAY_LIMIT: u64 = 184;

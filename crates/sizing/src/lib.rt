@@ -168,9 +168,7 @@ fn write(from: [u64; 64], lent: &mut [u64])
     requires { ⌜ memberLimit ≤ length (now lent) ⌝ }
     ensures { λ _. ⌜ now (lent .exit) ≡ from ++ drop memberLimit (now (lent .entry)) ⌝ }
 {
-    for i in 0..64 {
-        lent[i] = from[i];
-    }
+    figures::write(lent, 0, &from);
 }
 
 // Month-end fund sizing of any bytes and numbers. At a refusal the lent numbers stay as they are.

@@ -1,10 +1,9 @@
 -- What the proofs of the calls share: a call is judged and answered.
-use Prim.Native.Nat.{ℕ, _+_, _-_, _≤_, _<_}
-use mathlib.Core.Path.{_≡_, refl, sym, _∙_}
+use Prim.Native.Nat.{ℕ, _≤_, _<_}
+use mathlib.Core.Path.{_≡_, refl}
 use mathlib.Core.Bool.{Bool, false, _||_}
 use native.Mathlib.Omega.{arith}
-use native.Mathlib.Decide.{decLt}
-use borrow.Author.Tests.{lt-ltb, le-ltb, ltb-false}
+use borrow.Author.Tests.{ltb-false}
 use lib.Dec.{eqb, ltb}
 use Rattle.lists.specs.Checks.{check}
 use Rattle.lists.specs.Limits.{memberLimit}
@@ -82,11 +81,3 @@ fit r member reason unfit g h e =
 -- an amount that is not unfit keeps the sum within its bound
 pub within-bound : (amount sum most : ℕ) → (eqb amount 0 || ltb most sum) ≡ false → sum ≤ most
 within-bound amount sum most e = ltb-false most sum (neither (eqb amount 0) _ e .1)
-
--- an amount fits the room below a bound where the sum is within the bound, the two being read as `s` and `b`
-pub room-test : (s b stands bound amount : ℕ) → s ≡ stands → b ≡ bound → stands ≤ bound → ltb (b - s) amount ≡ ltb bound (stands + amount)
-room-test s b stands bound amount p q h =
-    elim (decLt (b - s) amount) [
-      | yes l ↦ lt-ltb _ _ l ∙ sym (lt-ltb bound (stands + amount) (omega arith))
-      | no l ↦ le-ltb (b - s) amount (omega arith) ∙ sym (le-ltb bound (stands + amount) (omega arith))
-    ]

@@ -6,11 +6,12 @@ use native.Mathlib.Omega.{arith}
 use borrow.Author.Needs.{needs}
 use lib.Dec.{eqb, ltb}
 use Rattle.lists.specs.Limits.{amountLimit}
+use Rattle.lists.proofs.Tests.{room-test}
 use Rattle.waterfall.specs.Calls.{replenishedOf, replenishmentRefusal, replenishmentOf}
 use Rattle.waterfall.specs.Register.{GivenBack}
 use Rattle.waterfall.specs.declared.Register.{Register}
 use Rattle.figures.specs.Figures.{figure}
-use Rattle.waterfall.proofs.Answer.{Fit, fit, within-bound, room-test, refused, accepted, says-accepted}
+use Rattle.waterfall.proofs.Answer.{Fit, fit, within-bound, refused, accepted, says-accepted}
 use Rattle.figures.proofs.Figures.{figure-le, figure-bound}
 use Rattle.waterfall.proofs.Given.{given-replenished}
 use Rattle.waterfall.proofs.replenishment.replenish.Statement.{statement}

@@ -115,7 +115,7 @@ pub fn amount_refusal(status: &[u8; 64], member: u64, amount: u64, most: u64, nu
 }
 
 // 18
-pub fn owing(outstanding: &[u64; 64]) -> bool
+pub fn owing(outstanding: &[u32; 64]) -> bool
     requires { ⌜ length (now outstanding) ≡ memberLimit ⌝ }
     ensures { λ r. ⌜ r ≡ owing (now (outstanding .entry)) ⌝ }
 {

@@ -1,9 +1,11 @@
-// Figures by member number: read, replaced, added and taken place by place, written to a lent buffer.
+// Figures by member number: read, replaced, added and taken place by place, written to a lent buffer. An amount is at most 400,000,000, so a
+// register holds it in 32 bits; sums, and what hosts hand over and receive, have 64.
 use lists::MEMBER_LIMIT;
+use lists::numbers::wide;
 ghost use mathlib.Core.Path.{_≡_};
 ghost use mathlib.Core.Bool.{_||_};
 ghost use mathlib.Core.List.{_++_, map};
-ghost use Prim.Native.Nat.{ℕ, _+_, _≤_, _<_};
+ghost use Prim.Native.Nat.{ℕ, _+_, _-_, _≤_, _<_};
 ghost use lib.Dec.{eqb, ltb};
 ghost use lib.ListN.{length, getD, take, drop};
 ghost use Rattle.lists.specs.Limits.{memberLimit, amountLimit};
@@ -25,39 +27,53 @@ pub fn outside(member: u64) -> bool
 }
 
 // The figure of a member, 0 of every other number.
-pub fn figure_of(figures: &[u64; 64], member: u64) -> u64
+pub fn figure_of(figures: &[u32; 64], member: u64) -> u64
     requires { ⌜ length (now figures) ≡ memberLimit ⌝ }
     ensures { λ r. ⌜ r ≡ figure (now (figures .entry)) member ⌝ }
 {
     if outside(member) {
         return 0;
     }
-    figures[(member - 1) as usize]
+    wide(figures[(member - 1) as usize])
 }
 
 // The figures with that of a member replaced.
-pub fn replace(figures: &mut [u64; 64], member: u64, figure: u64)
-    requires { ⌜ (length (now figures) ≡ memberLimit) × ((0 < member) × (member ≤ memberLimit)) ⌝ }
+pub fn replace(figures: &mut [u32; 64], member: u64, figure: u64)
+    requires { ⌜ (length (now figures) ≡ memberLimit) × ((0 < member) × (member ≤ memberLimit)) × (figure ≤ amountLimit) ⌝ }
     ensures { λ _. ⌜ now (figures .exit) ≡ replace (now (figures .entry)) member figure ⌝ }
 {
-    figures[(member - 1) as usize] = figure;
+    figures[(member - 1) as usize] = figure as u32;
+}
+
+fn less(figure: u32, amount: u64) -> u32
+    requires { ⌜ amount ≤ figure ⌝ }
+    ensures { λ r. ⌜ r ≡ figure - amount ⌝ }
+{
+    figure - amount as u32
 }
 
 // The figures with the amounts taken from them, place by place.
-pub fn take_from(figures: &mut [u64; 64], amounts: &[u64; 64])
+pub fn take_from(figures: &mut [u32; 64], amounts: &[u64; 64])
     requires { ⌜ (length (now figures) ≡ memberLimit) × (length (now amounts) ≡ memberLimit) ⌝ }
     requires { ⌜ ((k : ℕ) → getD (now amounts) k 0 ≤ getD (now figures) k 0) ⌝ }
     ensures { λ _. ⌜ now (figures .exit) ≡ minus (now (figures .entry)) (now (amounts .entry)) ⌝ }
 {
     let mut i = 0;
     while i < 64 {
-        figures[i] -= amounts[i];
+        figures[i] = less(figures[i], amounts[i]);
         i += 1;
     }
 }
 
+fn more(figure: u32, amount: u64) -> u32
+    requires { ⌜ figure + amount ≤ amountLimit ⌝ }
+    ensures { λ r. ⌜ r ≡ figure + amount ⌝ }
+{
+    figure + amount as u32
+}
+
 // The figures with the amounts, `whole` together, added to them, place by place. Where there is nothing to add, nothing is done.
-pub fn add_to(figures: &mut [u64; 64], amounts: &[u64; 64], whole: u64)
+pub fn add_to(figures: &mut [u32; 64], amounts: &[u64; 64], whole: u64)
     requires { ⌜ (length (now figures) ≡ memberLimit) × (length (now amounts) ≡ memberLimit) × (whole ≡ total (now amounts)) ⌝ }
     requires { ⌜ ((k : ℕ) → getD (now figures) k 0 + getD (now amounts) k 0 ≤ amountLimit) ⌝ }
     ensures { λ _. ⌜ now (figures .exit) ≡ plus (now (figures .entry)) (now (amounts .entry)) ⌝ }
@@ -67,9 +83,21 @@ pub fn add_to(figures: &mut [u64; 64], amounts: &[u64; 64], whole: u64)
     }
     let mut i = 0;
     while i < 64 {
-        figures[i] += amounts[i];
+        figures[i] = more(figures[i], amounts[i]);
         i += 1;
     }
+}
+
+// The amounts as a register holds them.
+pub fn stored(amounts: &[u64; 64]) -> [u32; 64]
+    requires { ⌜ (length (now amounts) ≡ memberLimit) × ((k : ℕ) → getD (now amounts) k 0 ≤ amountLimit) ⌝ }
+    ensures { λ r. ⌜ r ≡ now (amounts .entry) ⌝ }
+{
+    let mut figures = [0u32; 64];
+    for i in 0..64 {
+        figures[i] = amounts[i] as u32;
+    }
+    figures
 }
 
 // The figures put into a lent buffer from `start` on.

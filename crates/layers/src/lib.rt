@@ -70,11 +70,11 @@ fn layer(left: u64, has: u64) -> Given
     }
 }
 
-fn live_figure(status: u8, figure: u64) -> u64
+fn live_figure(status: u8, figure: u32) -> u64
     ensures { λ r. ⌜ r ≡ cond (eqb live status) figure 0 ⌝ }
 {
     if status == LIVE {
-        return figure;
+        return figure as u64;
     }
     0
 }
@@ -103,7 +103,7 @@ fn read_ranks(status: &[u8; 64], ranks: &[u8]) -> [u8; 64]
 }
 
 // The rests of the caps of the live members, and 0 for the others.
-fn rooms_of<'a>(status: &'a [u8; 64], cap: &'a [u64; 64], called: &'a [u64; 64]) -> Rooms
+fn rooms_of<'a>(status: &'a [u8; 64], cap: &'a [u32; 64], called: &'a [u32; 64]) -> Rooms
     requires { ⌜ Roomy (now status) (now cap) (now called) ⌝ }
     ensures { λ r. ⌜ (r .rooms ≡ rooms (liveIn (now (status .entry))) (now (cap .entry)) (now (called .entry))) × (r .total ≡ total (r .rooms)) ⌝ }
 {
@@ -125,7 +125,7 @@ fn rooms_of<'a>(status: &'a [u8; 64], cap: &'a [u64; 64], called: &'a [u64; 64])
 // Layer 4. "other live members' contributions"
 fn charge_others<'a>(
     status: &'a [u8; 64],
-    contribution: &'a [u64; 64],
+    contribution: &'a [u32; 64],
     sum: u64,
     ranks: &[u8],
 ) -> Charged
@@ -140,8 +140,8 @@ fn charge_others<'a>(
 // Layer 6. "calls on other live members": where nothing is left, no room is looked at.
 fn call_others<'a>(
     status: &'a [u8; 64],
-    cap: &'a [u64; 64],
-    called: &'a [u64; 64],
+    cap: &'a [u32; 64],
+    called: &'a [u32; 64],
     left: u64,
 ) -> Called
     requires { ⌜ Roomy (now status) (now cap) (now called) × (left ≤ allocationLimit) ⌝ }
@@ -175,9 +175,9 @@ pub fn place<'a>(
     tranche1: u64,
     tranche2: u64,
     status: &'a [u8; 64],
-    contributions: &'a [u64; 64],
-    cap: &'a [u64; 64],
-    called: &'a [u64; 64],
+    contributions: &'a [u32; 64],
+    cap: &'a [u32; 64],
+    called: &'a [u32; 64],
     ranks: &[u8],
 ) -> Placed
     requires { ⌜ (sum ≤ allocationLimit) × Chargeable (now status) (now contributions) (now ranks) × Roomy (now status) (now cap) (now called) ⌝ }

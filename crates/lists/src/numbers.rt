@@ -1,4 +1,4 @@
-// The lesser and the greater of two numbers.
+// The lesser and the greater of two numbers; an amount that is held in 32 bits, in 64.
 ghost use mathlib.Core.Path.{_≡_};
 ghost use Prim.Native.Nat.{min, max};
 
@@ -18,4 +18,10 @@ pub fn greater(a: u64, b: u64) -> u64
         return b;
     }
     a
+}
+
+pub fn wide(amount: u32) -> u64
+    ensures { λ r. ⌜ r ≡ amount ⌝ }
+{
+    amount as u64
 }

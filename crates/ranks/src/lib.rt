@@ -33,14 +33,14 @@ struct Margin {
 }
 
 // The weights added up by rank. What has no rank, 0, adds to place 0, which nobody reads.
-fn rank_totals(weights: &[u64; 64], ranks: &[u8]) -> [u64; RANKS]
+fn rank_totals(weights: &[u32; 64], ranks: &[u8]) -> [u64; RANKS]
     requires { ⌜ Weighed (now weights) (now ranks) ⌝ }
     ensures { λ r. ⌜ Totals r (now (weights .entry)) (now (ranks .entry)) ⌝ }
 {
     let mut totals = [0u64; RANKS];
     for i in 0..64 {
         let rank = ranks[i] as usize;
-        totals[rank] += weights[i];
+        totals[rank] += weights[i] as u64;
     }
     totals
 }
@@ -65,7 +65,7 @@ fn next_rank(totals: &[u64; RANKS], from: u8) -> u8
 }
 
 // Ranks are charged whole from the highest down, while enough is left. The first with more than is left is the marginal one.
-fn marginal(sum: u64, weights: &[u64; 64], ranks: &[u8]) -> Margin
+fn marginal(sum: u64, weights: &[u32; 64], ranks: &[u8]) -> Margin
     requires { ⌜ Weighed (now weights) (now ranks) ⌝ }
     ensures { λ r. ⌜ Marginal sum (now (weights .entry)) (now (ranks .entry)) (r .rank) (r .part) (r .whole) (r .total) ⌝ }
 {
@@ -95,17 +95,17 @@ fn marginal(sum: u64, weights: &[u64; 64], ranks: &[u8]) -> Margin
 }
 
 // A member's weight where it is of the rank, and else 0.
-fn weight_at(rank: u8, byte: u8, weight: u64) -> u64
+fn weight_at(rank: u8, byte: u8, weight: u32) -> u64
     ensures { λ r. ⌜ r ≡ cond (eqb rank byte) weight 0 ⌝ }
 {
     if rank == byte {
-        return weight;
+        return weight as u64;
     }
     0
 }
 
 // The weights of one rank, and 0 for the others.
-fn weights_at(rank: u8, weights: &[u64; 64], ranks: &[u8]) -> [u64; 64]
+fn weights_at(rank: u8, weights: &[u32; 64], ranks: &[u8]) -> [u64; 64]
     requires { ⌜ Weighed (now weights) (now ranks) ⌝ }
     ensures { λ r. ⌜ r ≡ atRank rank (now (weights .entry)) (now (ranks .entry)) ⌝ }
 {
@@ -122,7 +122,7 @@ fn share_marginal(
     rank: u8,
     part: u64,
     whole: u64,
-    weights: &[u64; 64],
+    weights: &[u32; 64],
     ranks: &[u8],
     charges: &mut [u64; 64],
 ) -> bool
@@ -138,17 +138,17 @@ fn share_marginal(
 }
 
 // A member's weight where its rank is above, and else 0.
-fn weight_above(rank: u8, byte: u8, weight: u64) -> u64
+fn weight_above(rank: u8, byte: u8, weight: u32) -> u64
     ensures { λ r. ⌜ r ≡ cond (ltb rank byte) weight 0 ⌝ }
 {
     if rank < byte {
-        return weight;
+        return weight as u64;
     }
     0
 }
 
 // The ranks above are charged whole: their weights, `above` together, are added to the charges. Where they have nothing, nothing is added.
-fn charge_above(rank: u8, above: u64, weights: &[u64; 64], ranks: &[u8], charges: &mut [u64; 64])
+fn charge_above(rank: u8, above: u64, weights: &[u32; 64], ranks: &[u8], charges: &mut [u64; 64])
     requires { ⌜ Weighed (now weights) (now ranks) × (above ≡ total (aboveRank rank (now weights) (now ranks))) ⌝ }
     requires { ⌜ (length (now charges) ≡ memberLimit) × ((k : ℕ) → getD (now charges) k 0 ≤ allocationLimit) ⌝ }
     ensures { λ _. ⌜ now (charges .exit) ≡ plus (aboveRank rank (now (weights .entry)) (now (ranks .entry))) (now (charges .entry)) ⌝ }
@@ -163,7 +163,7 @@ fn charge_above(rank: u8, above: u64, weights: &[u64; 64], ranks: &[u8], charges
 }
 
 // `sum` charged to `weights` by rank. The total needs no second addition: it is the sum, less what no rank could give.
-pub fn charge_by_rank(sum: u64, weights: &[u64; 64], ranks: &[u8]) -> Charged
+pub fn charge_by_rank(sum: u64, weights: &[u32; 64], ranks: &[u8]) -> Charged
     requires { ⌜ (sum ≤ allocationLimit) × Weighed (now weights) (now ranks) ⌝ }
     ensures { λ r. ⌜ (r .charges ≡ chargesOf sum (now (weights .entry)) (now (ranks .entry))) × (r .total ≡ total (r .charges)) ⌝ }
     ensures { λ r. ⌜ r .over ≡ exceeds (r .charges) (now (weights .entry)) ⌝ }

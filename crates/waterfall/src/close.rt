@@ -21,7 +21,7 @@ pub fn close(register: Register) -> Outcome
         };
     }
     let mut next = register;
-    next.called = [0u64; 64];
+    next.called = [0u32; 64];
     Outcome {
         reply: Reply::Accepted,
         register: next,

@@ -40,9 +40,9 @@ pub fn declare(
     others[at] = IN_DEFAULT;
     let fallen = register.outstanding[at];
     let placed = place(
-        loss + fallen,
-        register.margin[at],
-        register.contribution[at],
+        loss + fallen as u64,
+        register.margin[at] as u64,
+        register.contribution[at] as u64,
         register.tranche1,
         register.tranche2,
         &others,
@@ -60,8 +60,8 @@ pub fn declare(
     // "Each charge leaves its pocket", and the defaulter is in default for good.
     tell(placed, slip);
     register.status[at] = IN_DEFAULT;
-    register.margin[at] -= placed.margin;
-    register.contribution[at] -= placed.contribution;
+    register.margin[at] -= placed.margin as u32;
+    register.contribution[at] -= placed.contribution as u32;
     register.outstanding[at] = 0;
     register.tranche1 -= placed.tranche1;
     register.tranche2 -= placed.tranche2;
@@ -70,7 +70,7 @@ pub fn declare(
     add_to(&mut register.called, &placed.called, placed.calls);
     Outcome {
         reply: Reply::Allocated(Allocation {
-            fallen,
+            fallen: fallen as u64,
             margin: placed.margin,
             contribution: placed.contribution,
             tranche1: placed.tranche1,

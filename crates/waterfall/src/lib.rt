@@ -12,13 +12,13 @@ use sheets::Refusal;
 pub struct Register {
     // figures::ABSENT, LIVE or IN_DEFAULT
     status: [u8; 64],
-    margin: [u64; 64],
-    contribution: [u64; 64],
-    requirement: [u64; 64],
-    cap: [u64; 64],
-    outstanding: [u64; 64],
+    margin: [u32; 64],
+    contribution: [u32; 64],
+    requirement: [u32; 64],
+    cap: [u32; 64],
+    outstanding: [u32; 64],
     // what was called since the last close
-    called: [u64; 64],
+    called: [u32; 64],
     // of our own contribution
     tranche1: u64,
     tranche2: u64,

@@ -3,6 +3,7 @@ use crate::Opened;
 use crate::Register;
 use figures::ABSENT;
 use figures::statuses;
+use figures::stored;
 use lists::CONTRIBUTION_FLOOR;
 use lists::MEMBER_LIMIT;
 use lists::SUM_LIMIT;
@@ -11,11 +12,10 @@ use sheets::columns::Columns;
 use sheets::columns::read;
 use sheets::missized;
 ghost use mathlib.Core.Path.{_≡_};
-ghost use Prim.Native.Nat.{_≤_};
-ghost use Rattle.lists.specs.Limits.{sumLimit};
 ghost use Rattle.sheets.specs.Sheet.{refusal};
 ghost use Rattle.waterfall.specs.Register.{GivenBack, emptyRegister};
 ghost use Rattle.waterfall.specs.Opening.{enteredOf, openedOf};
+ghost use Rattle.waterfall.specs.Parts.{Holdable};
 
 // A refused opening: nobody is in the register.
 fn refused(number: u8, position: usize) -> Opened
@@ -25,12 +25,12 @@ fn refused(number: u8, position: usize) -> Opened
         refusal: Refusal { number, position },
         register: Register {
             status: [ABSENT; 64],
-            margin: [0u64; 64],
-            contribution: [0u64; 64],
-            requirement: [0u64; 64],
-            cap: [0u64; 64],
-            outstanding: [0u64; 64],
-            called: [0u64; 64],
+            margin: [0u32; 64],
+            contribution: [0u32; 64],
+            requirement: [0u32; 64],
+            cap: [0u32; 64],
+            outstanding: [0u32; 64],
+            called: [0u32; 64],
             tranche1: 0,
             tranche2: 0,
         },
@@ -39,13 +39,13 @@ fn refused(number: u8, position: usize) -> Opened
 
 // The register with the members of the sheet.
 fn entered(columns: Columns, own: u64) -> Register
-    requires { ⌜ own ≤ sumLimit ⌝ }
+    requires { ⌜ Holdable columns own ⌝ }
     ensures { λ r. ⌜ r ≡ enteredOf columns own ⌝ }
 {
     let present = columns.present;
-    let margin = columns.first;
-    let contribution = columns.second;
-    let cap = columns.third;
+    let margin = stored(&columns.first);
+    let contribution = stored(&columns.second);
+    let cap = stored(&columns.third);
     let tranche1 = 60 * own / 100;
     Register {
         status: statuses(present),
@@ -53,8 +53,8 @@ fn entered(columns: Columns, own: u64) -> Register
         contribution,
         requirement: contribution,
         cap,
-        outstanding: [0u64; 64],
-        called: [0u64; 64],
+        outstanding: [0u32; 64],
+        called: [0u32; 64],
         tranche1,
         tranche2: own - tranche1,
     }

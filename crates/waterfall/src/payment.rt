@@ -8,7 +8,7 @@ use figures::replace;
 ghost use mathlib.Core.Path.{_≡_};
 ghost use Prim.Native.Nat.{_≤_, _<_};
 ghost use lib.ListN.{length};
-ghost use Rattle.lists.specs.Limits.{memberLimit};
+ghost use Rattle.lists.specs.Limits.{memberLimit, amountLimit};
 ghost use Rattle.waterfall.specs.Register.{GivenBack};
 ghost use Rattle.waterfall.specs.Calls.{paymentRefusal, paymentOf};
 ghost use Rattle.waterfall.specs.Reply.{Says, nothing};
@@ -16,7 +16,7 @@ ghost use Rattle.waterfall.specs.Parts.{Owes};
 
 // The register in which a member has `left` outstanding. What was called since the last close stands.
 fn owing(mut register: Register, member: u64, left: u64) -> Register
-    requires { ⌜ (length (register .outstanding) ≡ memberLimit) × ((0 < member) × (member ≤ memberLimit)) ⌝ }
+    requires { ⌜ (length (register .outstanding) ≡ memberLimit) × ((0 < member) × (member ≤ memberLimit)) × (left ≤ amountLimit) ⌝ }
     ensures { λ r. ⌜ Owes register member left r ⌝ }
 {
     replace(&mut register.outstanding, member, left);

@@ -1,5 +1,6 @@
 // What a host prints of a register.
 use crate::Register;
+use lists::numbers::wide;
 ghost use mathlib.Core.Path.{_≡_};
 ghost use Rattle.waterfall.specs.View.{figuresOf, tranchesOf};
 
@@ -29,12 +30,12 @@ pub fn member(register: Register, member: u64) -> MemberView
             let at = (member - 1) as usize;
             return MemberView {
                 status: register.status[at],
-                margin: register.margin[at],
-                contribution: register.contribution[at],
-                requirement: register.requirement[at],
-                cap: register.cap[at],
-                outstanding: register.outstanding[at],
-                called: register.called[at],
+                margin: wide(register.margin[at]),
+                contribution: wide(register.contribution[at]),
+                requirement: wide(register.requirement[at]),
+                cap: wide(register.cap[at]),
+                outstanding: wide(register.outstanding[at]),
+                called: wide(register.called[at]),
             };
         }
     }

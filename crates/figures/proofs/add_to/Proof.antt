@@ -20,8 +20,8 @@ abbrev μ-loop : tie.MeasureT-loop
 μ-loop figures₀ amounts whole i₀ figures i = memberLimit - i
 
 -- the figure that is changed next is still the old one
-same : (c : tie.After-figures2 Inv-loop μ-loop) → let l = c .before .before .before in getD (l .loop .figures) (l .loop .i) 0 ≡ getD (l .before .before .args .figures .now) (l .loop .i) 0
-same c = place-next _ _ _ _ _ (c .before .before .before .loop .inv .1)
+same : (c : tie.At-loop Inv-loop μ-loop) → getD (c .loop .figures) (c .loop .i) 0 ≡ getD (c .before .before .args .figures .now) (c .loop .i) 0
+same c = place-next _ _ _ _ _ (c .loop .inv .1)
 
 returns : tie.Need-returns Inv-loop μ-loop
 returns c =
@@ -31,22 +31,25 @@ returns c =
 loop-holds : tie.Need-loop-holds Inv-loop μ-loop
 loop-holds c = (search needs, place-starts _ _ _)
 
+mul-more : tie.Need-mul-more Inv-loop μ-loop
+mul-more c = search needs
+
+element-copy-out-more : tie.Need-element-copy-out-more Inv-loop μ-loop
+element-copy-out-more c = search needs
+
+mul-more-2 : tie.Need-mul-more-2 Inv-loop μ-loop
+mul-more-2 c = search needs
+
+element-copy-out-more-2 : tie.Need-element-copy-out-more-2 Inv-loop μ-loop
+element-copy-out-more-2 c = search needs
+
+more-requires : tie.Need-more-requires Inv-loop μ-loop
+more-requires c κs =
+    let l = c .before .before .before in
+    omega (arith, same l, l .before .before .pre .1 (l .loop .i))
+
 mul-figures : tie.Need-mul-figures Inv-loop μ-loop
 mul-figures c = search needs
-
-element-copy-out-figures : tie.Need-element-copy-out-figures Inv-loop μ-loop
-element-copy-out-figures c = search needs
-
-mul-figures-2 : tie.Need-mul-figures-2 Inv-loop μ-loop
-mul-figures-2 c = search needs
-
-element-copy-out-figures-2 : tie.Need-element-copy-out-figures-2 Inv-loop μ-loop
-element-copy-out-figures-2 c = search needs
-
-add-figures : tie.Need-add-figures Inv-loop μ-loop
-add-figures c =
-    let l = c .before .before .before in
-    omega (arith, same c, l .before .before .pre .1 (l .loop .i))
 
 element-write-figures : tie.Need-element-write-figures Inv-loop μ-loop
 element-write-figures c = search needs
@@ -59,10 +62,10 @@ loop-less c = search needs
 
 loop-again : tie.Need-loop-again Inv-loop μ-loop
 loop-again c =
-    let l = c .before .before .before in
+    let l = c .before .before .before .before in
     let a = l .before .before .args in
     let step = plus-step (a .figures .now) (a .amounts .now) (l .loop .i) (omega arith) (omega arith) in
-    (omega arith, place-turn _ _ _ _ _ _ (omega arith) (rw (same c) step) (l .loop .inv .1))
+    (omega arith, place-turn _ _ _ _ _ _ (omega arith) (rw (c .more .ensures, same l) step) (l .loop .inv .1))
 
 returns-2 : tie.Need-returns-2 Inv-loop μ-loop
 returns-2 c =
@@ -77,11 +80,12 @@ add-to-spec =
     μ-loop
     returns
     loop-holds
+    mul-more
+    element-copy-out-more
+    mul-more-2
+    element-copy-out-more-2
+    more-requires
     mul-figures
-    element-copy-out-figures
-    mul-figures-2
-    element-copy-out-figures-2
-    add-figures
     element-write-figures
     add-i
     loop-less

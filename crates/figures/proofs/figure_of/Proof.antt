@@ -1,6 +1,6 @@
 -- `figures::figure_of` meets its contract.
 use Prim.Native.Nat.{_≤_, _<_}
-use mathlib.Core.Path.{sym}
+use mathlib.Core.Path.{sym, _∙_}
 use native.Mathlib.Omega.{arith}
 use borrow.Author.Needs.{needs}
 use Rattle.lists.specs.Limits.{memberLimit}
@@ -21,17 +21,20 @@ returns c =
     let b = c .before .before in
     sym (figure-outside (b .args .member) _ (c .before .outside .ensures) (b .args .figures .now) (b .pre) (c .if1 .taken))
 
-sub-result : tie.Need-sub-result
-sub-result c = at c .0
+sub-wide : tie.Need-sub-wide
+sub-wide c = at c .0
 
-mul-result : tie.Need-mul-result
-mul-result c = omega (arith, at c)
+mul-wide : tie.Need-mul-wide
+mul-wide c = omega (arith, at c)
 
-element-copy-out-result : tie.Need-element-copy-out-result
-element-copy-out-result c = omega (arith, at c)
+element-copy-out-wide : tie.Need-element-copy-out-wide
+element-copy-out-wide c = omega (arith, at c)
+
+wide-requires : tie.Need-wide-requires
+wide-requires c κs = search needs
 
 returns-2 : tie.Need-returns-2
-returns-2 c = sym (figure-at _ _ (at (c .before) .0))
+returns-2 c = c .wide .ensures ∙ sym (figure-at _ _ (at (c .before .before) .0))
 
 pub figure-of-spec : {M : Type 1} → statement M
-figure-of-spec = tie.close (tie.spec outside-requires returns sub-result mul-result element-copy-out-result returns-2)
+figure-of-spec = tie.close (tie.spec outside-requires returns sub-wide mul-wide element-copy-out-wide wide-requires returns-2)

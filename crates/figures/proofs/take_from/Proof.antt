@@ -20,28 +20,31 @@ abbrev μ-loop : tie.MeasureT-loop
 μ-loop figures₀ amounts i₀ figures i = memberLimit - i
 
 -- the figure that is changed next is still the old one
-same : (c : tie.After-figures2 Inv-loop μ-loop) → let l = c .before .before .before in getD (l .loop .figures) (l .loop .i) 0 ≡ getD (l .before .args .figures .now) (l .loop .i) 0
-same c = place-next _ _ _ _ _ (c .before .before .before .loop .inv .1)
+same : (c : tie.At-loop Inv-loop μ-loop) → getD (c .loop .figures) (c .loop .i) 0 ≡ getD (c .before .args .figures .now) (c .loop .i) 0
+same c = place-next _ _ _ _ _ (c .loop .inv .1)
 
 loop-holds : tie.Need-loop-holds Inv-loop μ-loop
 loop-holds c = (search needs, place-starts _ _ _)
 
+mul-less : tie.Need-mul-less Inv-loop μ-loop
+mul-less c = search needs
+
+element-copy-out-less : tie.Need-element-copy-out-less Inv-loop μ-loop
+element-copy-out-less c = search needs
+
+mul-less-2 : tie.Need-mul-less-2 Inv-loop μ-loop
+mul-less-2 c = search needs
+
+element-copy-out-less-2 : tie.Need-element-copy-out-less-2 Inv-loop μ-loop
+element-copy-out-less-2 c = search needs
+
+less-requires : tie.Need-less-requires Inv-loop μ-loop
+less-requires c κs =
+    let l = c .before .before .before in
+    omega (arith, same l, l .before .pre .1 (l .loop .i))
+
 mul-figures : tie.Need-mul-figures Inv-loop μ-loop
 mul-figures c = search needs
-
-element-copy-out-figures : tie.Need-element-copy-out-figures Inv-loop μ-loop
-element-copy-out-figures c = search needs
-
-mul-figures-2 : tie.Need-mul-figures-2 Inv-loop μ-loop
-mul-figures-2 c = search needs
-
-element-copy-out-figures-2 : tie.Need-element-copy-out-figures-2 Inv-loop μ-loop
-element-copy-out-figures-2 c = search needs
-
-sub-figures : tie.Need-sub-figures Inv-loop μ-loop
-sub-figures c =
-    let l = c .before .before .before in
-    omega (arith, same c, l .before .pre .1 (l .loop .i))
 
 element-write-figures : tie.Need-element-write-figures Inv-loop μ-loop
 element-write-figures c = search needs
@@ -54,10 +57,10 @@ loop-less c = search needs
 
 loop-again : tie.Need-loop-again Inv-loop μ-loop
 loop-again c =
-    let l = c .before .before .before in
+    let l = c .before .before .before .before in
     let a = l .before .args in
     let step = minus-step (a .figures .now) (a .amounts .now) (l .loop .i) (omega arith) (omega arith) in
-    (omega arith, place-turn _ _ _ _ _ _ (omega arith) (rw (same c) step) (l .loop .inv .1))
+    (omega arith, place-turn _ _ _ _ _ _ (omega arith) (rw (c .less .ensures, same l) step) (l .loop .inv .1))
 
 returns : tie.Need-returns Inv-loop μ-loop
 returns c =
@@ -71,11 +74,12 @@ take-from-spec =
     Inv-loop
     μ-loop
     loop-holds
+    mul-less
+    element-copy-out-less
+    mul-less-2
+    element-copy-out-less-2
+    less-requires
     mul-figures
-    element-copy-out-figures
-    mul-figures-2
-    element-copy-out-figures-2
-    sub-figures
     element-write-figures
     add-i
     loop-less

@@ -41,6 +41,11 @@ mul-totals c = search needs
 element-copy-out-totals : tie.Need-element-copy-out-totals Inv-loop μ-loop
 element-copy-out-totals c = search needs
 
+cast-totals : tie.Need-cast-totals Inv-loop μ-loop
+cast-totals c =
+    let l = c .before .before .before in
+    omega (arith, l .before .pre .weights-fit (l .loop .i))
+
 mul-totals-2 : tie.Need-mul-totals-2 Inv-loop μ-loop
 mul-totals-2 c = omega (arith, rank c)
 
@@ -87,6 +92,7 @@ rank-totals-spec =
     cast-rank
     mul-totals
     element-copy-out-totals
+    cast-totals
     mul-totals-2
     array-read-totals
     add-totals

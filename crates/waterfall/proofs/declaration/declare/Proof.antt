@@ -4,7 +4,7 @@ use mathlib.Core.Path.{_≡_, sym, _∙_}
 use native.Mathlib.Omega.{arith}
 use borrow.Author.Needs.{needs}
 use lib.ListN.{length, getD, length-set}
-use Rattle.lists.specs.Limits.{memberLimit}
+use Rattle.lists.specs.Limits.{memberLimit, amountLimit}
 use Rattle.lists.specs.Sums.{total}
 use Rattle.lists.proofs.Places.{set-all}
 use Rattle.figures.specs.Figures.{figure}
@@ -31,6 +31,20 @@ module _ (c : tie.Else1) where
 
   at : (0 < begun .args .member) × (begun .args .member ≤ memberLimit)
   at = (can .0 .member-least, can .0 .member-most)
+
+  -- the defaulter's figures are amounts
+  fallen-fits : let a = begun .args in getD (a .t1 .outstanding) (a .member - 1) 0 ≤ amountLimit
+  fallen-fits =
+      let a = begun .args in
+      outstanding-fits (a .t1) (a .member) (a .loss) (a .ranks .now) (can .0)
+
+  margin-fits : let a = begun .args in getD (a .t1 .margin) (a .member - 1) 0 ≤ amountLimit
+  margin-fits = begun .pre .margin-fits (begun .args .member - 1)
+
+  contribution-fits : let a = begun .args in getD (a .t1 .contribution) (a .member - 1) 0 ≤ amountLimit
+  contribution-fits =
+      let k = begun .args .member - 1 in
+      omega (arith, begun .pre .contribution-fits k, begun .pre .requirement-fits k)
 
   -- the defaulter's margin and contribution, as they are read
   margin-is : let a = begun .args in figure (a .t1 .margin) (a .member) ≡ getD (a .t1 .margin) (a .member - 1) 0
@@ -98,11 +112,11 @@ mul-fallen c = omega (arith, at c)
 element-copy-out-fallen : tie.Need-element-copy-out-fallen
 element-copy-out-fallen c = omega (arith, at c)
 
+cast-place : tie.Need-cast-place
+cast-place c = omega (arith, fallen-fits (c .before))
+
 add-place : tie.Need-add-place
-add-place c =
-    let a = begun (c .before) .args in
-    let p = can (c .before) .0 in
-    omega (arith, outstanding-fits (a .t1) (a .member) (a .loss) (a .ranks .now) p, p .loss-fits)
+add-place c = omega (arith, fallen-fits (c .before), can (c .before) .0 .loss-fits)
 
 mul-place : tie.Need-mul-place
 mul-place c = omega (arith, at (c .before))
@@ -110,11 +124,17 @@ mul-place c = omega (arith, at (c .before))
 element-copy-out-place : tie.Need-element-copy-out-place
 element-copy-out-place c = omega (arith, at (c .before))
 
+cast-place-2 : tie.Need-cast-place-2
+cast-place-2 c = omega (arith, margin-fits (c .before .before))
+
 mul-place-2 : tie.Need-mul-place-2
 mul-place-2 c = omega (arith, at (c .before .before))
 
 element-copy-out-place-2 : tie.Need-element-copy-out-place-2
 element-copy-out-place-2 c = omega (arith, at (c .before .before))
+
+cast-place-3 : tie.Need-cast-place-3
+cast-place-3 c = omega (arith, contribution-fits (c .before .before .before))
 
 place-requires : tie.Need-place-requires
 place-requires c κs =
@@ -140,6 +160,11 @@ tell-requires c κs =
 element-write-register : tie.Need-element-write-register
 element-write-register c = omega (arith, at (passed (tested c)))
 
+cast-register : tie.Need-cast-register
+cast-register c =
+    let x = tested c in
+    omega (arith, settled x .margin-within, margin-is (passed x), margin-fits (passed x))
+
 mul-register : tie.Need-mul-register
 mul-register c = omega (arith, at (passed (tested c)))
 
@@ -153,6 +178,11 @@ sub-register c =
 
 element-write-register-2 : tie.Need-element-write-register-2
 element-write-register-2 c = omega (arith, at (passed (tested (c .before))))
+
+cast-register-2 : tie.Need-cast-register-2
+cast-register-2 c =
+    let x = tested (c .before) in
+    omega (arith, settled x .contribution-within, contribution-is (passed x), contribution-fits (passed x))
 
 mul-register-2 : tie.Need-mul-register-2
 mul-register-2 c = omega (arith, at (passed (tested (c .before))))
@@ -206,6 +236,10 @@ add-to-requires-2 c κs =
     let p = settled x in
     ((p .given .called-length, p .calls-length, whole x), p .calls-within)
 
+cast-t24 : tie.Need-cast-t24
+cast-t24 c =
+    omega (arith, fallen-fits (passed (tested (c .before .before .before .before .before .before .before .before .before .before .before .before .before .before))))
+
 same-length : tie.Need-same-length
 same-length c = search needs
 
@@ -228,19 +262,24 @@ declare-spec =
     array-write-others
     mul-fallen
     element-copy-out-fallen
+    cast-place
     add-place
     mul-place
     element-copy-out-place
+    cast-place-2
     mul-place-2
     element-copy-out-place-2
+    cast-place-3
     place-requires
     returns-2
     tell-requires
     element-write-register
+    cast-register
     mul-register
     element-copy-out-register
     sub-register
     element-write-register-2
+    cast-register-2
     mul-register-2
     element-copy-out-register-2
     sub-register-2
@@ -252,5 +291,6 @@ declare-spec =
     take-from-requires
     add-to-requires
     add-to-requires-2
+    cast-t24
     same-length
     returns-3)

@@ -3,7 +3,9 @@ use Prim.Native.Nat.{ℕ, _-_}
 use mathlib.Core.Path.{_≡_, ap, _∙_}
 use native.Mathlib.Omega.{arith}
 use borrow.Author.Needs.{needs}
+use Rattle.lists.specs.Limits.{amountLimit}
 use Rattle.figures.specs.Figures.{figure, replace}
+use Rattle.figures.proofs.Figures.{figure-bound}
 use Rattle.admission.specs.Admission.{unfit}
 use Rattle.waterfall.specs.Parts.{Owes}
 use Rattle.waterfall.specs.declared.Register.{Register}
@@ -66,7 +68,10 @@ sub-owing c =
 
 owing-requires : tie.Need-owing-requires
 owing-requires c κs =
-    (begun (c .before) .pre .outstanding-length, (fits c .least, fits c .most))
+    let b = begun (c .before) in
+    let g = b .pre in
+    let most = figure-bound (b .args .t1 .outstanding) amountLimit (λ k. omega (arith, g .outstanding-fits k, g .called-fits k, g .cap-fits k)) (b .args .member) in
+    (g .outstanding-length, (fits c .least, fits c .most), omega (arith, due (c .before) .figure-of .ensures, most))
 
 returns-2 : tie.Need-returns-2
 unfolding paymentOf

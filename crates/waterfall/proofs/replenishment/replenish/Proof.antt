@@ -70,10 +70,11 @@ returns c = refused _ _ _ _ _ (begun (read (c .before)) .pre) _ (found (c .befor
 figure-of-requires-3 : tie.Need-figure-of-requires-3
 figure-of-requires-3 c κs = search needs
 
-add-raised : tie.Need-add-raised
-add-raised c =
+-- the raised contribution is an amount
+raised : (c : tie.After-figure-of3) → c .figure-of3 .result + start (c .before .before .before) .args .amount ≤ amountLimit
+raised c =
     let i = c .before .before .before in
-    let b = begun (read (i .before)) in
+    let b = start i in
     let r = b .args .t1 in
     let member = b .args .member in
     omega (
@@ -83,10 +84,13 @@ add-raised c =
       figure-bound (r .requirement) amountLimit (b .pre .requirement-fits) member,
     )
 
+add-raised : tie.Need-add-raised
+add-raised c = omega (arith, raised c)
+
 replace-requires : tie.Need-replace-requires
 replace-requires c κs =
     let i = c .before .before .before .before in
-    (start i .pre .contribution-length, (passed i .least, passed i .most))
+    (start i .pre .contribution-length, (passed i .least, passed i .most), omega (arith, raised (c .before)))
 
 returns-2 : tie.Need-returns-2
 unfolding replenishmentOf replenishedOf

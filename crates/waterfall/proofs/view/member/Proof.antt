@@ -16,47 +16,73 @@ sub-at c = search needs
 element-copy-out-t10 : tie.Need-element-copy-out-t10
 element-copy-out-t10 c = search needs
 
-mul-t11 : tie.Need-mul-t11
-mul-t11 c = search needs
+mul-wide : tie.Need-mul-wide
+mul-wide c = search needs
 
-element-copy-out-t7 : tie.Need-element-copy-out-t7
-element-copy-out-t7 c = search needs
+element-copy-out-wide : tie.Need-element-copy-out-wide
+element-copy-out-wide c = search needs
 
-mul-t14 : tie.Need-mul-t14
-mul-t14 c = search needs
+wide-requires : tie.Need-wide-requires
+wide-requires c κs = search needs
 
-element-copy-out-t17 : tie.Need-element-copy-out-t17
-element-copy-out-t17 c = search needs
+mul-wide-2 : tie.Need-mul-wide-2
+mul-wide-2 c = search needs
 
-mul-t18 : tie.Need-mul-t18
-mul-t18 c = search needs
+element-copy-out-wide-2 : tie.Need-element-copy-out-wide-2
+element-copy-out-wide-2 c = search needs
 
-element-copy-out-t21 : tie.Need-element-copy-out-t21
-element-copy-out-t21 c = search needs
+wide-requires-2 : tie.Need-wide-requires-2
+wide-requires-2 c κs = search needs
 
-mul-t22 : tie.Need-mul-t22
-mul-t22 c = search needs
+mul-wide-3 : tie.Need-mul-wide-3
+mul-wide-3 c = search needs
 
-element-copy-out-t25 : tie.Need-element-copy-out-t25
-element-copy-out-t25 c = search needs
+element-copy-out-wide-3 : tie.Need-element-copy-out-wide-3
+element-copy-out-wide-3 c = search needs
 
-mul-t26 : tie.Need-mul-t26
-mul-t26 c = search needs
+wide-requires-3 : tie.Need-wide-requires-3
+wide-requires-3 c κs = search needs
 
-element-copy-out-t29 : tie.Need-element-copy-out-t29
-element-copy-out-t29 c = search needs
+mul-wide-4 : tie.Need-mul-wide-4
+mul-wide-4 c = search needs
 
-mul-t30 : tie.Need-mul-t30
-mul-t30 c = search needs
+element-copy-out-wide-4 : tie.Need-element-copy-out-wide-4
+element-copy-out-wide-4 c = search needs
 
-element-copy-out-t33 : tie.Need-element-copy-out-t33
-element-copy-out-t33 c = search needs
+wide-requires-4 : tie.Need-wide-requires-4
+wide-requires-4 c κs = search needs
+
+mul-wide-5 : tie.Need-mul-wide-5
+mul-wide-5 c = search needs
+
+element-copy-out-wide-5 : tie.Need-element-copy-out-wide-5
+element-copy-out-wide-5 c = search needs
+
+wide-requires-5 : tie.Need-wide-requires-5
+wide-requires-5 c κs = search needs
+
+mul-wide-6 : tie.Need-mul-wide-6
+mul-wide-6 c = search needs
+
+element-copy-out-wide-6 : tie.Need-element-copy-out-wide-6
+element-copy-out-wide-6 c = search needs
+
+wide-requires-6 : tie.Need-wide-requires-6
+wide-requires-6 c κs = search needs
 
 returns : tie.Need-returns
 returns c =
-    let b = c .before .before .before .before .before .before .before .before .before in
+    let b = c .before .before .before .before .before .before .before .before .before .before .before .before .before .before .before in
     let h : 0 < b .args .member = omega arith in
-    simp (figure-at, h)
+    rw (
+      c .before .before .before .before .before .before .before .before .before .before .wide .ensures,
+      c .before .before .before .before .before .before .before .before .wide2 .ensures,
+      c .before .before .before .before .before .before .wide3 .ensures,
+      c .before .before .before .before .wide4 .ensures,
+      c .before .before .wide5 .ensures,
+      c .wide6 .ensures,
+    )
+    (simp (figure-at, h))
 
 returns-2 : tie.Need-returns-2
 returns-2 c =
@@ -86,18 +112,24 @@ member-spec =
     (tie.spec
     sub-at
     element-copy-out-t10
-    mul-t11
-    element-copy-out-t7
-    mul-t14
-    element-copy-out-t17
-    mul-t18
-    element-copy-out-t21
-    mul-t22
-    element-copy-out-t25
-    mul-t26
-    element-copy-out-t29
-    mul-t30
-    element-copy-out-t33
+    mul-wide
+    element-copy-out-wide
+    wide-requires
+    mul-wide-2
+    element-copy-out-wide-2
+    wide-requires-2
+    mul-wide-3
+    element-copy-out-wide-3
+    wide-requires-3
+    mul-wide-4
+    element-copy-out-wide-4
+    wide-requires-4
+    mul-wide-5
+    element-copy-out-wide-5
+    wide-requires-5
+    mul-wide-6
+    element-copy-out-wide-6
+    wide-requires-6
     returns
     returns-2
     returns-3)

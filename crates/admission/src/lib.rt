@@ -2,7 +2,7 @@
 use figures::ABSENT;
 use figures::IN_DEFAULT;
 use figures::LIVE;
-use figures::outside;
+use figures::status_at;
 use lists::MEMBER_LIMIT;
 use lists::RANK_LIMIT;
 use lists::SUM_LIMIT;
@@ -20,10 +20,7 @@ pub fn standing(status: &[u8; 64], member: u64) -> u8
     requires { ⌜ length (now status) ≡ memberLimit ⌝ }
     ensures { λ r. ⌜ r ≡ standing (now (status .entry)) member 0 ⌝ }
 {
-    if outside(member) {
-        return 11;
-    }
-    let found = status[(member - 1) as usize];
+    let found = status_at(status, member);
     if found == ABSENT {
         return 11;
     }

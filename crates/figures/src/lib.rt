@@ -37,6 +37,17 @@ pub fn figure_of(figures: &[u32; 64], member: u64) -> u64
     wide(figures[(member - 1) as usize])
 }
 
+// The status of a member, ABSENT of every other number.
+pub fn status_at(status: &[u8; 64], member: u64) -> u8
+    requires { ⌜ length (now status) ≡ memberLimit ⌝ }
+    ensures { λ r. ⌜ r ≡ figure (now (status .entry)) member ⌝ }
+{
+    if outside(member) {
+        return ABSENT;
+    }
+    status[(member - 1) as usize]
+}
+
 // The figures with that of a member replaced.
 pub fn replace(figures: &mut [u32; 64], member: u64, figure: u64)
     requires { ⌜ (length (now figures) ≡ memberLimit) × ((0 < member) × (member ≤ memberLimit)) × (figure ≤ amountLimit) ⌝ }

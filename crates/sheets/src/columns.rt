@@ -20,7 +20,8 @@ pub struct Reading {
     pub columns: Columns,
 }
 
-fn no_columns() -> Columns
+// The columns of a sheet of no records.
+pub fn no_columns() -> Columns
     ensures { λ r. ⌜ r ≡ noColumns ⌝ }
 {
     Columns {

@@ -1,7 +1,6 @@
 // Document 01, "The opening register": a register opened from its sheet and our own contribution G.
 use crate::Opened;
 use crate::Register;
-use figures::ABSENT;
 use figures::statuses;
 use figures::stored;
 use lists::CONTRIBUTION_FLOOR;
@@ -9,6 +8,7 @@ use lists::MEMBER_LIMIT;
 use lists::SUM_LIMIT;
 use sheets::Refusal;
 use sheets::columns::Columns;
+use sheets::columns::no_columns;
 use sheets::columns::read;
 use sheets::missized;
 ghost use mathlib.Core.Path.{_≡_};
@@ -16,26 +16,6 @@ ghost use Rattle.sheets.specs.Sheet.{refusal};
 ghost use Rattle.waterfall.specs.Register.{GivenBack, emptyRegister};
 ghost use Rattle.waterfall.specs.Opening.{enteredOf, openedOf};
 ghost use Rattle.waterfall.specs.Parts.{Holdable};
-
-// A refused opening: nobody is in the register.
-fn refused(number: u8, position: usize) -> Opened
-    ensures { λ r. ⌜ (r .refusal ≡ refusal number position) × (r .register ≡ emptyRegister) ⌝ }
-{
-    Opened {
-        refusal: Refusal { number, position },
-        register: Register {
-            status: [ABSENT; 64],
-            margin: [0u32; 64],
-            contribution: [0u32; 64],
-            requirement: [0u32; 64],
-            cap: [0u32; 64],
-            outstanding: [0u32; 64],
-            called: [0u32; 64],
-            tranche1: 0,
-            tranche2: 0,
-        },
-    }
-}
 
 // The register with the members of the sheet.
 fn entered(columns: Columns, own: u64) -> Register
@@ -57,6 +37,16 @@ fn entered(columns: Columns, own: u64) -> Register
         called: [0u32; 64],
         tranche1,
         tranche2: own - tranche1,
+    }
+}
+
+// A refused opening: the register of a sheet of no records and of nothing of our own has no members, and both its tranches are 0.
+fn refused(number: u8, position: usize) -> Opened
+    ensures { λ r. ⌜ (r .refusal ≡ refusal number position) × (r .register ≡ emptyRegister) ⌝ }
+{
+    Opened {
+        refusal: Refusal { number, position },
+        register: entered(no_columns(), 0),
     }
 }
 

@@ -16,7 +16,8 @@ pub fn replenish(register: Register, member: u64, amount: u64) -> Outcome
     ensures { λ r. ⌜ GivenBack (r .register) ⌝ }
     ensures { λ r. ⌜ Says (r .reply) (replenishmentRefusal register member amount) nothing ⌝ }
 {
-    let room = figure_of(&register.requirement, member) - figure_of(&register.contribution, member);
+    let standing = figure_of(&register.contribution, member);
+    let room = figure_of(&register.requirement, member) - standing;
     let number = amount_refusal(&register.status, member, amount, room, 17);
     if 0 < number {
         return Outcome {
@@ -24,9 +25,8 @@ pub fn replenish(register: Register, member: u64, amount: u64) -> Outcome
             register,
         };
     }
-    let raised = figure_of(&register.contribution, member) + amount;
     let mut next = register;
-    replace(&mut next.contribution, member, raised);
+    replace(&mut next.contribution, member, standing + amount);
     Outcome {
         reply: Reply::Accepted,
         register: next,

@@ -1,6 +1,7 @@
 // What a host prints of a register.
 use crate::Register;
-use lists::numbers::wide;
+use figures::figure_of;
+use figures::status_at;
 ghost use mathlib.Core.Path.{_≡_};
 ghost use Rattle.waterfall.specs.View.{figuresOf, tranchesOf};
 
@@ -25,28 +26,14 @@ pub struct TranchesView {
 pub fn member(register: Register, member: u64) -> MemberView
     ensures { λ r. ⌜ r ≡ figuresOf register member ⌝ }
 {
-    if 0 < member {
-        if member <= 64 {
-            let at = (member - 1) as usize;
-            return MemberView {
-                status: register.status[at],
-                margin: wide(register.margin[at]),
-                contribution: wide(register.contribution[at]),
-                requirement: wide(register.requirement[at]),
-                cap: wide(register.cap[at]),
-                outstanding: wide(register.outstanding[at]),
-                called: wide(register.called[at]),
-            };
-        }
-    }
     MemberView {
-        status: 0,
-        margin: 0,
-        contribution: 0,
-        requirement: 0,
-        cap: 0,
-        outstanding: 0,
-        called: 0,
+        status: status_at(&register.status, member),
+        margin: figure_of(&register.margin, member),
+        contribution: figure_of(&register.contribution, member),
+        requirement: figure_of(&register.requirement, member),
+        cap: figure_of(&register.cap, member),
+        outstanding: figure_of(&register.outstanding, member),
+        called: figure_of(&register.called, member),
     }
 }
 

@@ -33,7 +33,7 @@ module _ (c : tie.After-amount-refusal) where
   found : let a = begun read .args in c .amount-refusal .result ≡ replenishmentRefusal (a .t1) (a .member) (a .amount)
   unfolding replenishmentRefusal
   found =
-      rw (room-test _ _ _ _ (begun read .args .amount) (read .figure-of2 .ensures) (read .before .before .before .figure-of .ensures) (within read)) at (c .amount-refusal .ensures)
+      rw (room-test _ _ _ _ (begun read .args .amount) (read .before .before .before .figure-of .ensures) (read .figure-of2 .ensures) (within read)) at (c .amount-refusal .ensures)
 
 -- past the refusals
 fits : (r : Register) (member amount : ℕ) → GivenBack r → replenishmentRefusal r member amount ≡ 0
@@ -67,39 +67,34 @@ returns : tie.Need-returns
 unfolding replenishmentOf
 returns c = refused _ _ _ _ _ (begun (read (c .before)) .pre) _ (found (c .before)) (c .if1 .taken)
 
-figure-of-requires-3 : tie.Need-figure-of-requires-3
-figure-of-requires-3 c κs = search needs
-
 -- the raised contribution is an amount
-raised : (c : tie.After-figure-of3) → c .figure-of3 .result + start (c .before .before .before) .args .amount ≤ amountLimit
+raised : (c : tie.Else1) → let r = read (c .before) .before .before .before in r .figure-of .result + start c .args .amount ≤ amountLimit
 raised c =
-    let i = c .before .before .before in
-    let b = start i in
+    let b = start c in
     let r = b .args .t1 in
     let member = b .args .member in
     omega (
       arith,
-      c .figure-of3 .ensures,
-      within-bound (b .args .amount) (figure (r .contribution) member + b .args .amount) (figure (r .requirement) member) (passed i .fits),
+      read (c .before) .before .before .before .figure-of .ensures,
+      within-bound (b .args .amount) (figure (r .contribution) member + b .args .amount) (figure (r .requirement) member) (passed c .fits),
       figure-bound (r .requirement) amountLimit (b .pre .requirement-fits) member,
     )
 
-add-raised : tie.Need-add-raised
-add-raised c = omega (arith, raised c)
+add-replace : tie.Need-add-replace
+add-replace c = omega (arith, raised (c .before))
 
 replace-requires : tie.Need-replace-requires
 replace-requires c κs =
-    let i = c .before .before .before .before in
-    (start i .pre .contribution-length, (passed i .least, passed i .most), omega (arith, raised (c .before)))
+    let i = c .before in
+    (start i .pre .contribution-length, (passed i .least, passed i .most), omega (arith, raised i))
 
 returns-2 : tie.Need-returns-2
 unfolding replenishmentOf replenishedOf
 returns-2 c =
-    let f = c .before .before in
-    let i = f .before .before .before in
+    let i = c .before .before in
     let b = start i in
     let a = b .args in
-    rw (c .replace .ensures, f .figure-of3 .ensures)
+    rw (c .replace .ensures, read (i .before) .before .before .before .figure-of .ensures)
     (accepted _ _ _ _ _ (b .pre) _ (found (i .before)) (i .if1 .left)
     (λ e. given-replenished (a .t1) (b .pre) (a .member) (a .amount) (within-bound (a .amount) _ _ (fits (a .t1) (a .member) (a .amount) (b .pre) e .fits))) says-accepted)
 
@@ -112,7 +107,6 @@ replenish-spec =
     sub-room
     amount-refusal-requires
     returns
-    figure-of-requires-3
-    add-raised
+    add-replace
     replace-requires
     returns-2)

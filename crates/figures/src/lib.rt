@@ -10,7 +10,7 @@ ghost use lib.Dec.{eqb, ltb};
 ghost use lib.ListN.{length, getD, take, drop};
 ghost use Rattle.lists.specs.Limits.{memberLimit, amountLimit};
 ghost use Rattle.lists.specs.Sums.{total, plus, minus};
-ghost use Rattle.figures.specs.Figures.{figure, replace, statusOf};
+ghost use Rattle.figures.specs.Figures.{figure, replace, inDefault, statusOf};
 
 // The status of a member: not in the register, live, in default.
 pub const ABSENT: u8 = 0;
@@ -46,6 +46,16 @@ pub fn status_at(status: &[u8; 64], member: u64) -> u8
         return ABSENT;
     }
     status[(member - 1) as usize]
+}
+
+// The statuses once a member is in default: those that are live are the others.
+pub fn defaulted(mut status: [u8; 64], member: u64) -> [u8; 64]
+    requires { ⌜ (0 < member) × (member ≤ memberLimit) ⌝ }
+    ensures { λ r. ⌜ r ≡ replace status member inDefault ⌝ }
+{
+    let at = (member - 1) as usize;
+    status[at] = IN_DEFAULT;
+    status
 }
 
 // The figures with that of a member replaced.

@@ -1,5 +1,5 @@
 -- A default as the code does it: its layers one after the other, what is settled, and its refusals.
-use Prim.Native.Nat.{ℕ, _+_, _-_, _≤_, _<_}
+use Prim.Native.Nat.{ℕ, _+_, _-_, _≤_, _<_, zero-le}
 use mathlib.Core.Path.{_≡_, refl, ap, sym, _∙_}
 use mathlib.Core.Bool.{Bool, true, false, _||_}
 use mathlib.Core.List.{List, _++_, map}
@@ -9,7 +9,7 @@ use lib.ListN.{length, getD, take, drop, set, replicate, length-set}
 use lib.Seq.{take-at, drop-at, drop-drop, getD-set-same}
 use Rattle.lists.specs.Checks.{check}
 use Rattle.lists.specs.Limits.{memberLimit, amountLimit, sumLimit, allocationLimit}
-use Rattle.lists.specs.Sums.{total, keep}
+use Rattle.lists.specs.Sums.{total, plus, minus, keep}
 use Rattle.lists.proofs.Checks.{Row, row-end, row-check, check-lt, check-true, check-false}
 use Rattle.lists.proofs.Places.{set-all}
 use Rattle.lists.proofs.Sums.{unkept, zeros, getD-zeros}
@@ -32,7 +32,7 @@ use Rattle.admission.proofs.Admitted.{admitted, admission-row}
 use Rattle.layers.proofs.Calls.{layer-as, whole-called}
 use Rattle.waterfall.proofs.Answer.{refused, accepted, says-allocated}
 use Rattle.waterfall.proofs.Default.{unmarked, rooms-within, charges-within, calls-within, margin-gives, contribution-gives, tranche1-gives, tranche2-gives, never-overdrawn, charges-placed, charges-weighed}
-use Rattle.figures.proofs.Figures.{figure-at, figure-place}
+use Rattle.figures.proofs.Figures.{figure-bound, figure-place}
 use Rattle.waterfall.proofs.Given.{length-calls, length-charged, given-default}
 
 -- what is known of a default that is not refused, and what is promised of it --------------
@@ -74,24 +74,28 @@ module _ (r : Register) (member loss : ℕ) (ranks : List ℕ) (p : Placeable r 
   at = member - 1
 
   abbrev marked : List ℕ
-  marked = set (r .status) at inDefault
+  marked = replace (r .status) member inDefault
 
-  -- the defaulter's figures, as they are read
-  read : (xs : List ℕ) → getD xs at 0 ≡ figure xs member
-  read xs = sym (figure-at xs member (p .member-least))
+  -- the defaulter's figures are amounts
+  pub margin-fits : figure (r .margin) member ≤ amountLimit
+  margin-fits = figure-bound (r .margin) amountLimit (p .given .margin-fits) member
 
-  pub outstanding-fits : getD (r .outstanding) at 0 ≤ amountLimit
-  outstanding-fits =
+  pub contribution-fits : figure (r .contribution) member ≤ amountLimit
+  contribution-fits =
       let g = p .given in
-      omega (arith, g .outstanding-fits at, g .called-fits at, g .cap-fits at)
+      figure-bound (r .contribution) amountLimit (λ k. omega (arith, g .contribution-fits k, g .requirement-fits k)) member
 
-  pub placed-fits : loss + getD (r .outstanding) at 0 ≤ allocationLimit
-  placed-fits = omega (arith, outstanding-fits, p .loss-fits)
-
-  pub chargeable : Chargeable marked (r .contribution) ranks
-  chargeable =
+  pub placed-fits : loss + figure (r .outstanding) member ≤ allocationLimit
+  placed-fits =
       let g = p .given in
-      record {
+      let fallen = figure-bound (r .outstanding) amountLimit (λ k. omega (arith, g .outstanding-fits k, g .called-fits k, g .cap-fits k)) member in
+      omega (arith, fallen, p .loss-fits)
+
+  -- `status` is theirs once the defaulter is in default
+  pub chargeable : (status : List ℕ) → status ≡ marked → Chargeable status (r .contribution) ranks
+  chargeable status e =
+      let g = p .given in
+      rw e record {
         status-length = length-set (r .status) at inDefault ∙ g .status-length;
         contribution-length = g .contribution-length;
         ranks-length = p .ranks-length;
@@ -99,10 +103,10 @@ module _ (r : Register) (member loss : ℕ) (ranks : List ℕ) (p : Placeable r 
         well-ranked = p .well-ranked;
       }
 
-  pub roomy : Roomy marked (r .cap) (r .called)
-  roomy =
+  pub roomy : (status : List ℕ) → status ≡ marked → Roomy status (r .cap) (r .called)
+  roomy status e =
       let g = p .given in
-      record {
+      rw e record {
         status-length = length-set (r .status) at inDefault ∙ g .status-length;
         cap-length = g .cap-length;
         called-length = g .called-length;
@@ -110,15 +114,22 @@ module _ (r : Register) (member loss : ℕ) (ranks : List ℕ) (p : Placeable r 
         called-fits = g .called-fits;
       }
 
-  -- what goes down the layers, by what the register has
-  module _ (x : Placed) (d : GoesDown (loss + getD (r .outstanding) at 0) (getD (r .margin) at 0) (getD (r .contribution) at 0) (r .tranche1) (r .tranche2) (liveIn marked) (r .contribution) (rooms (liveIn marked) (r .cap) (r .called)) ranks x) where
+  -- what goes down the layers, by the figures that were read of the register
+  pub goes-down : (fallen margin contribution : ℕ) (status : List ℕ) (x : Placed)
+      → GoesDown (loss + fallen) margin contribution (r .tranche1) (r .tranche2) (liveIn status) (r .contribution) (rooms (liveIn status) (r .cap) (r .called)) ranks x
+      → fallen ≡ figure (r .outstanding) member → margin ≡ figure (r .margin) member → contribution ≡ figure (r .contribution) member → status ≡ marked
+      → GoesDown (loss + figure (r .outstanding) member) (figure (r .margin) member) (figure (r .contribution) member) (r .tranche1) (r .tranche2) (liveIn marked) (r .contribution) (rooms (liveIn marked) (r .cap) (r .called)) ranks x
+  goes-down fallen margin contribution status x d f m c e = rw (f, m, c, e) at d
+
+  -- and by what the register has
+  module _ (x : Placed) (d : GoesDown (loss + figure (r .outstanding) member) (figure (r .margin) member) (figure (r .contribution) member) (r .tranche1) (r .tranche2) (liveIn marked) (r .contribution) (rooms (liveIn marked) (r .cap) (r .called)) ranks x) where
     layer1-is : (x .margin ≡ onMargin r member loss) × (d .left1 ≡ after1 r member loss)
     unfolding onMargin after1 toPlace fallenCall
-    layer1-is = layer-as _ _ _ _ _ _ (d .layer1) (ap (λ (n : ℕ). loss + n) (read (r .outstanding))) (read (r .margin))
+    layer1-is = layer-as _ _ _ _ _ _ (d .layer1) refl refl
 
     layer2-is : (x .contribution ≡ onContribution r member loss) × (d .left2 ≡ after2 r member loss)
     unfolding onContribution after2
-    layer2-is = layer-as _ _ _ _ _ _ (d .layer2) (layer1-is .1) (read (r .contribution))
+    layer2-is = layer-as _ _ _ _ _ _ (d .layer2) (layer1-is .1) refl
 
     layer3-is : (x .tranche1 ≡ onTranche1 r member loss) × (d .left3 ≡ after3 r member loss)
     unfolding onTranche1 after3
@@ -136,9 +147,9 @@ module _ (r : Register) (member loss : ℕ) (ranks : List ℕ) (p : Placeable r 
     unfolding onTranche2 after5
     layer5-is = layer-as _ _ _ _ _ _ (d .layer5) left4-is refl
 
-    pub placed-so : Places r member loss ranks
+    pub placed-so : (fallen : ℕ) → fallen ≡ figure (r .outstanding) member → Places r member loss ranks
         (record {
-          fallen = getD (r .outstanding) at 0;
+          fallen = fallen;
           margin = x .margin;
           contribution = x .contribution;
           tranche1 = x .tranche1;
@@ -148,7 +159,7 @@ module _ (r : Register) (member loss : ℕ) (ranks : List ℕ) (p : Placeable r 
           short = x .short;
         }) (x .charges) (x .called) (x .over)
     unfolding allocationOf fallenCall onCalls calls shortfall roomsOf
-    placed-so =
+    placed-so fallen f =
         let s = d .layer6 in
         let five = layer5-is .1 in
         let called : x .called ≡ calls r member loss ranks =
@@ -156,7 +167,7 @@ module _ (r : Register) (member loss : ℕ) (ranks : List ℕ) (p : Placeable r 
         record {
           allocation-is =
               rw (
-                read (r .outstanding),
+                f,
                 layer1-is .0,
                 layer2-is .0,
                 layer3-is .0,
@@ -208,6 +219,44 @@ module _ (r : Register) (member loss : ℕ) (ranks : List ℕ) (p : Placeable r 
       → Settles r member (a .margin) (a .contribution) (a .tranche1) (a .tranche2) ch cs
   unfolding allocationOf
   settles-so a ch cs over w = rw (w .allocation-is, w .charges-are, w .calls-are) settles
+
+-- what the lists are once the defaulter's figures are settled
+module _ {r : Register} {member margin contribution tranche1 tranche2 : ℕ} {charges calls : List ℕ} (p : Settles r member margin contribution tranche1 tranche2 charges calls) where
+  pub can-take : (xs : List ℕ) (n : ℕ) → xs ≡ replace (r .contribution) member (n - contribution) → n ≡ figure (r .contribution) member
+      → ((length xs ≡ memberLimit) × (length charges ≡ memberLimit)) × ((k : ℕ) → getD charges k 0 ≤ getD xs k 0)
+  can-take xs n e f = rw (e, f) ((simp length-set (p .given .contribution-length), p .charges-length), p .charges-within)
+
+  pub can-add : (xs : List ℕ) → xs ≡ replace (r .outstanding) member 0 → (length xs ≡ memberLimit) × ((k : ℕ) → getD xs k 0 + getD calls k 0 ≤ amountLimit)
+  can-add xs e =
+      rw e (
+        simp length-set (p .given .outstanding-length),
+        λ k.
+            omega (
+              arith,
+              set-all (λ n y. y ≤ getD (r .called) n 0) (r .outstanding) (member - 1) 0 (p .given .outstanding-fits) zero-le k,
+              p .calls-within k,
+            ),
+      )
+
+-- a register whose lists are those, by the figures that were read
+pub settled-as : (r : Register) (member margin contribution tranche1 tranche2 : ℕ) (charges calls : List ℕ)
+    {m n : ℕ} {status margins kept contributions cleared outstanding called : List ℕ}
+    → m ≡ figure (r .margin) member → n ≡ figure (r .contribution) member
+    → status ≡ replace (r .status) member inDefault → margins ≡ replace (r .margin) member (m - margin)
+    → kept ≡ replace (r .contribution) member (n - contribution) → contributions ≡ minus kept charges
+    → cleared ≡ replace (r .outstanding) member 0 → outstanding ≡ plus cleared calls → called ≡ plus (r .called) calls
+    → record {
+      status = status;
+      margin = margins;
+      contribution = contributions;
+      requirement = r .requirement;
+      cap = r .cap;
+      outstanding = outstanding;
+      called = called;
+      tranche1 = r .tranche1 - tranche1;
+      tranche2 = r .tranche2 - tranche2;
+    } ≡ settledBy r member margin contribution tranche1 tranche2 charges calls
+settled-as r member margin contribution tranche1 tranche2 charges calls e f a b c d g h i = rw (d, h, a, b, c, g, i, e, f)
 
 -- refusals -------------------------------------------------------------------------------
 

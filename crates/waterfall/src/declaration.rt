@@ -4,8 +4,10 @@ use crate::Outcome;
 use crate::Register;
 use crate::Reply;
 use admission::default_refusal;
-use figures::IN_DEFAULT;
 use figures::add_to;
+use figures::defaulted;
+use figures::figure_of;
+use figures::replace;
 use figures::take_from;
 use layers::place;
 use layers::tell;
@@ -27,8 +29,8 @@ pub fn declare(
     ensures { λ r. ⌜ GivenBack (r .register) ⌝ }
     ensures { λ r. ⌜ Says (r .reply) (defaultRefusal register member loss (now (ranks .entry)) (now (slip .entry))) (allocationOf register member loss (now (ranks .entry))) ⌝ }
 {
-    let mut others = register.status;
-    let number = default_refusal(others, member, loss, ranks, slip.len());
+    let status = register.status;
+    let number = default_refusal(status, member, loss, ranks, slip.len());
     if 0 < number {
         return Outcome {
             reply: Reply::Refused(number),
@@ -36,13 +38,14 @@ pub fn declare(
         };
     }
     // The six layers change nothing yet: 19 may still refuse the default.
-    let at = (member - 1) as usize;
-    others[at] = IN_DEFAULT;
-    let fallen = register.outstanding[at];
+    let others = defaulted(status, member);
+    let fallen = figure_of(&register.outstanding, member);
+    let margin = figure_of(&register.margin, member);
+    let contribution = figure_of(&register.contribution, member);
     let placed = place(
-        loss + fallen as u64,
-        register.margin[at] as u64,
-        register.contribution[at] as u64,
+        loss + fallen,
+        margin,
+        contribution,
         register.tranche1,
         register.tranche2,
         &others,
@@ -59,10 +62,14 @@ pub fn declare(
     }
     // "Each charge leaves its pocket", and the defaulter is in default for good.
     tell(placed, slip);
-    register.status[at] = IN_DEFAULT;
-    register.margin[at] -= placed.margin as u32;
-    register.contribution[at] -= placed.contribution as u32;
-    register.outstanding[at] = 0;
+    register.status = others;
+    replace(&mut register.margin, member, margin - placed.margin);
+    replace(
+        &mut register.contribution,
+        member,
+        contribution - placed.contribution,
+    );
+    replace(&mut register.outstanding, member, 0);
     register.tranche1 -= placed.tranche1;
     register.tranche2 -= placed.tranche2;
     take_from(&mut register.contribution, &placed.charges);
@@ -70,7 +77,7 @@ pub fn declare(
     add_to(&mut register.called, &placed.called, placed.calls);
     Outcome {
         reply: Reply::Allocated(Allocation {
-            fallen: fallen as u64,
+            fallen,
             margin: placed.margin,
             contribution: placed.contribution,
             tranche1: placed.tranche1,

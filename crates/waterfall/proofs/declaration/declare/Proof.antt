@@ -1,16 +1,16 @@
 -- `waterfall::declaration::declare` meets its contract.
-use Prim.Native.Nat.{ℕ, _+_, _-_, _≤_, _<_, zero-le}
+use Prim.Native.Nat.{_+_, _≤_, _<_}
 use mathlib.Core.Path.{_≡_, sym, _∙_}
 use native.Mathlib.Omega.{arith}
 use borrow.Author.Needs.{needs}
-use lib.ListN.{length, getD, length-set}
-use Rattle.lists.specs.Limits.{memberLimit, amountLimit}
+use lib.ListN.{length}
+use Rattle.lists.specs.Limits.{memberLimit, allocationLimit}
 use Rattle.lists.specs.Sums.{total}
-use Rattle.lists.proofs.Places.{set-all}
-use Rattle.figures.specs.Figures.{figure}
-use Rattle.figures.proofs.Figures.{figure-at}
+use Rattle.figures.specs.Figures.{figure, inDefault, replace, others}
 use Rattle.admission.specs.Admission.{admission}
-use Rattle.waterfall.proofs.Placing.{Placeable, Places, Settles, refused-early, refused-late, accepted-so, placeable, outstanding-fits, placed-fits, chargeable, roomy, placed-so, called-total, settles-so}
+use Rattle.layers.specs.Layers.{rooms}
+use Rattle.layers.specs.Parts.{GoesDown}
+use Rattle.waterfall.proofs.Placing.{Placeable, Places, Settles, refused-early, refused-late, accepted-so, placeable, margin-fits, contribution-fits, placed-fits, chargeable, roomy, goes-down, placed-so, called-total, settles-so, can-take, can-add, settled-as}
 use Rattle.waterfall.proofs.declaration.declare.Statement.{statement}
 use Rattle.waterfall.proofs.declaration.declare.Tie as tie
 
@@ -32,39 +32,52 @@ module _ (c : tie.Else1) where
   at : (0 < begun .args .member) × (begun .args .member ≤ memberLimit)
   at = (can .0 .member-least, can .0 .member-most)
 
-  -- the defaulter's figures are amounts
-  fallen-fits : let a = begun .args in getD (a .t1 .outstanding) (a .member - 1) 0 ≤ amountLimit
-  fallen-fits =
-      let a = begun .args in
-      outstanding-fits (a .t1) (a .member) (a .loss) (a .ranks .now) (can .0)
-
-  margin-fits : let a = begun .args in getD (a .t1 .margin) (a .member - 1) 0 ≤ amountLimit
-  margin-fits = begun .pre .margin-fits (begun .args .member - 1)
-
-  contribution-fits : let a = begun .args in getD (a .t1 .contribution) (a .member - 1) 0 ≤ amountLimit
-  contribution-fits =
-      let k = begun .args .member - 1 in
-      omega (arith, begun .pre .contribution-fits k, begun .pre .requirement-fits k)
-
-  -- the defaulter's margin and contribution, as they are read
-  margin-is : let a = begun .args in figure (a .t1 .margin) (a .member) ≡ getD (a .t1 .margin) (a .member - 1) 0
-  margin-is = figure-at _ _ (at .0)
-
-  contribution-is : let a = begun .args in figure (a .t1 .contribution) (a .member) ≡ getD (a .t1 .contribution) (a .member - 1) 0
-  contribution-is = figure-at _ _ (at .0)
-
--- what is placed
-module _ (s : tie.After-place) where
+-- the defaulter's figures and the other live members, as they are read
+module _ (f : tie.After-figure-of3) where
   abbrev passed : tie.Else1
-  passed = s .before .before .before .before .before .before .before .before .before
+  passed = f .before .before .before .before .before .before .before .before .before .before
 
   abbrev asked : tie.Start
   asked = begun passed
 
-  placed : let a = asked .args in let x = s .place .result in
+  others-are : f .before .before .before .before .before .before .before .before .before .defaulted .result ≡ replace (asked .args .t1 .status) (asked .args .member) inDefault
+  others-are = f .before .before .before .before .before .before .before .before .before .defaulted .ensures
+
+  fallen-is : f .before .before .before .before .before .before .figure-of .result ≡ figure (asked .args .t1 .outstanding) (asked .args .member)
+  fallen-is = f .before .before .before .before .before .before .figure-of .ensures
+
+  margin-is : f .before .before .before .figure-of2 .result ≡ figure (asked .args .t1 .margin) (asked .args .member)
+  margin-is = f .before .before .before .figure-of2 .ensures
+
+  contribution-is : f .figure-of3 .result ≡ figure (asked .args .t1 .contribution) (asked .args .member)
+  contribution-is = f .figure-of3 .ensures
+
+  sum-fits : asked .args .loss + f .before .before .before .before .before .before .figure-of .result ≤ allocationLimit
+  sum-fits =
+      let a = asked .args in
+      omega (arith, fallen-is, placed-fits (a .t1) (a .member) (a .loss) (a .ranks .now) (can passed .0))
+
+-- what is placed
+module _ (s : tie.After-place) where
+  abbrev read : tie.After-figure-of3
+  read = s .before .before .before .before .before .before
+
+  abbrev start : tie.Start
+  start = asked read
+
+  down : let a = start .args in
+      GoesDown (a .loss + figure (a .t1 .outstanding) (a .member)) (figure (a .t1 .margin) (a .member)) (figure (a .t1 .contribution) (a .member))
+      (a .t1 .tranche1) (a .t1 .tranche2) (others (a .t1 .status) (a .member)) (a .t1 .contribution)
+      (rooms (others (a .t1 .status) (a .member)) (a .t1 .cap) (a .t1 .called)) (a .ranks .now) (s .place .result)
+  down =
+      let a = start .args in
+      goes-down (a .t1) (a .member) (a .loss) (a .ranks .now) (can (passed read) .0) _ _ _ _ (s .place .result) (s .place .ensures)
+      (fallen-is read) (margin-is read) (contribution-is read) (others-are read)
+
+  placed : let a = start .args in let x = s .place .result in
       Places (a .t1) (a .member) (a .loss) (a .ranks .now)
       (record {
-        fallen = getD (a .t1 .outstanding) (a .member - 1) 0;
+        fallen = read .before .before .before .before .before .before .figure-of .result;
         margin = x .margin;
         contribution = x .contribution;
         tranche1 = x .tranche1;
@@ -75,17 +88,17 @@ module _ (s : tie.After-place) where
       })
       (x .charges) (x .called) (x .over)
   placed =
-      let a = asked .args in
-      placed-so (a .t1) (a .member) (a .loss) (a .ranks .now) (can passed .0) (s .place .result) (s .place .ensures)
+      let a = start .args in
+      placed-so (a .t1) (a .member) (a .loss) (a .ranks .now) (can (passed read) .0) (s .place .result) down _ (fallen-is read)
 
-  settled : let a = asked .args in let x = s .place .result in
+  settled : let a = start .args in let x = s .place .result in
       Settles (a .t1) (a .member) (x .margin) (x .contribution) (x .tranche1) (x .tranche2) (x .charges) (x .called)
-  settled = settles-so _ _ _ _ (can passed .0) _ _ _ _ placed
+  settled = settles-so _ _ _ _ (can (passed read) .0) _ _ _ _ placed
 
   whole : let x = s .place .result in x .calls ≡ total (x .called)
   whole =
-      let a = asked .args in
-      called-total (a .t1) (a .member) (a .loss) (a .ranks .now) (can passed .0) (s .place .result) (s .place .ensures)
+      let a = start .args in
+      called-total (a .t1) (a .member) (a .loss) (a .ranks .now) (can (passed read) .0) (s .place .result) down
 
 -- what comes before the register changes
 abbrev tested : tie.After-slice-known2 → tie.After-place
@@ -100,157 +113,111 @@ returns c =
     let a = b .args in
     refused-early (a .t1) (a .member) (a .loss) (a .ranks .now) (a .slip .now) (b .pre) _ (c .before .default-refusal .ensures) (c .if1 .taken)
 
-sub-at : tie.Need-sub-at
-sub-at c = omega (arith, at c)
+defaulted-requires : tie.Need-defaulted-requires
+defaulted-requires c κs = at c
 
-array-write-others : tie.Need-array-write-others
-array-write-others c = omega (arith, at c)
+figure-of-requires : tie.Need-figure-of-requires
+figure-of-requires c κs = search needs
 
-mul-fallen : tie.Need-mul-fallen
-mul-fallen c = omega (arith, at c)
+figure-of-requires-2 : tie.Need-figure-of-requires-2
+figure-of-requires-2 c κs = search needs
 
-element-copy-out-fallen : tie.Need-element-copy-out-fallen
-element-copy-out-fallen c = omega (arith, at c)
-
-cast-place : tie.Need-cast-place
-cast-place c = omega (arith, fallen-fits (c .before))
+figure-of-requires-3 : tie.Need-figure-of-requires-3
+figure-of-requires-3 c κs = search needs
 
 add-place : tie.Need-add-place
-add-place c = omega (arith, fallen-fits (c .before), can (c .before) .0 .loss-fits)
-
-mul-place : tie.Need-mul-place
-mul-place c = omega (arith, at (c .before))
-
-element-copy-out-place : tie.Need-element-copy-out-place
-element-copy-out-place c = omega (arith, at (c .before))
-
-cast-place-2 : tie.Need-cast-place-2
-cast-place-2 c = omega (arith, margin-fits (c .before .before))
-
-mul-place-2 : tie.Need-mul-place-2
-mul-place-2 c = omega (arith, at (c .before .before))
-
-element-copy-out-place-2 : tie.Need-element-copy-out-place-2
-element-copy-out-place-2 c = omega (arith, at (c .before .before))
-
-cast-place-3 : tie.Need-cast-place-3
-cast-place-3 c = omega (arith, contribution-fits (c .before .before .before))
+add-place c = omega (arith, sum-fits c)
 
 place-requires : tie.Need-place-requires
 place-requires c κs =
-    let e = c .before .before .before .before .before .before .before .before in
-    let a = begun e .args in
-    let p = can e .0 in (
-      placed-fits (a .t1) (a .member) (a .loss) (a .ranks .now) p,
-      chargeable (a .t1) (a .member) (a .loss) (a .ranks .now) p,
-      roomy (a .t1) (a .member) (a .loss) (a .ranks .now) p,
+    let f = c .before .before .before .before .before in
+    let a = asked f .args in
+    let p = can (passed f) .0 in (
+      sum-fits f,
+      chargeable (a .t1) (a .member) (a .loss) (a .ranks .now) p _ (others-are f),
+      roomy (a .t1) (a .member) (a .loss) (a .ranks .now) p _ (others-are f),
     )
 
 returns-2 : tie.Need-returns-2
 returns-2 c =
-    let x = c .before in
-    let a = asked x .args in
-    refused-late (a .t1) (a .member) (a .loss) (a .ranks .now) (a .slip .now) (asked x .pre) (early-none (passed x)) (sym (placed x .over-is) ∙ c .if2 .taken)
+    let s = c .before in
+    let a = start s .args in
+    refused-late (a .t1) (a .member) (a .loss) (a .ranks .now) (a .slip .now) (start s .pre) (early-none (passed (read s))) (sym (placed s .over-is) ∙ c .if2 .taken)
 
 tell-requires : tie.Need-tell-requires
 tell-requires c κs =
-    let x = c .before .before in
-    (settled x .charges-length, settled x .calls-length, can (passed x) .1)
+    let s = c .before .before in
+    (settled s .charges-length, settled s .calls-length, can (passed (read s)) .1)
 
-element-write-register : tie.Need-element-write-register
-element-write-register c = omega (arith, at (passed (tested c)))
+sub-replace : tie.Need-sub-replace
+sub-replace c =
+    let s = tested (c .before) in
+    omega (arith, settled s .margin-within, margin-is (read s))
 
-cast-register : tie.Need-cast-register
-cast-register c =
-    let x = tested c in
-    omega (arith, settled x .margin-within, margin-is (passed x), margin-fits (passed x))
+replace-requires : tie.Need-replace-requires
+replace-requires c κs =
+    let s = tested (c .before) in
+    let a = start s .args in
+    let e = passed (read s) in
+    (start s .pre .margin-length, at e, omega (arith, margin-is (read s), margin-fits (a .t1) (a .member) (a .loss) (a .ranks .now) (can e .0)))
 
-mul-register : tie.Need-mul-register
-mul-register c = omega (arith, at (passed (tested c)))
+sub-replace-2 : tie.Need-sub-replace-2
+sub-replace-2 c =
+    let s = tested (c .before .before .before) in
+    omega (arith, settled s .contribution-within, contribution-is (read s))
 
-element-copy-out-register : tie.Need-element-copy-out-register
-element-copy-out-register c = omega (arith, at (passed (tested c)))
+replace-requires-2 : tie.Need-replace-requires-2
+replace-requires-2 c κs =
+    let s = tested (c .before .before .before) in
+    let a = start s .args in
+    let e = passed (read s) in
+    (start s .pre .contribution-length, at e, omega (arith, contribution-is (read s), contribution-fits (a .t1) (a .member) (a .loss) (a .ranks .now) (can e .0)))
+
+replace-requires-3 : tie.Need-replace-requires-3
+replace-requires-3 c κs =
+    let s = tested (c .before .before .before .before .before) in
+    (start s .pre .outstanding-length, at (passed (read s)), omega arith)
 
 sub-register : tie.Need-sub-register
-sub-register c =
-    let x = tested (c .before) in
-    omega (arith, settled x .margin-within, margin-is (passed x))
-
-element-write-register-2 : tie.Need-element-write-register-2
-element-write-register-2 c = omega (arith, at (passed (tested (c .before))))
-
-cast-register-2 : tie.Need-cast-register-2
-cast-register-2 c =
-    let x = tested (c .before) in
-    omega (arith, settled x .contribution-within, contribution-is (passed x), contribution-fits (passed x))
-
-mul-register-2 : tie.Need-mul-register-2
-mul-register-2 c = omega (arith, at (passed (tested (c .before))))
-
-element-copy-out-register-2 : tie.Need-element-copy-out-register-2
-element-copy-out-register-2 c = omega (arith, at (passed (tested (c .before))))
+sub-register c = omega (arith, settled (tested (c .before .before .before .before .before .before)) .tranche1-within)
 
 sub-register-2 : tie.Need-sub-register-2
-sub-register-2 c =
-    let x = tested (c .before .before) in
-    omega (arith, settled x .contribution-within, contribution-is (passed x))
-
-element-write-register-3 : tie.Need-element-write-register-3
-element-write-register-3 c = omega (arith, at (passed (tested (c .before .before))))
-
-mul-register-3 : tie.Need-mul-register-3
-mul-register-3 c = omega (arith, at (passed (tested (c .before .before))))
-
-element-write-register-4 : tie.Need-element-write-register-4
-element-write-register-4 c = omega (arith, at (passed (tested (c .before .before))))
-
-sub-register-3 : tie.Need-sub-register-3
-sub-register-3 c = omega (arith, settled (tested (c .before .before)) .tranche1-within)
-
-sub-register-4 : tie.Need-sub-register-4
-sub-register-4 c = omega (arith, settled (tested (c .before .before)) .tranche2-within)
+sub-register-2 c = omega (arith, settled (tested (c .before .before .before .before .before .before)) .tranche2-within)
 
 take-from-requires : tie.Need-take-from-requires
 take-from-requires c κs =
-    let x = tested (c .before .before .before .before .before) in
-    let p = settled x in
-    ((simp length-set (p .given .contribution-length), p .charges-length), rw (contribution-is (passed x)) at (p .charges-within))
+    let w = c .before .before .before in
+    let s = tested (w .before .before .before .before .before .before) in
+    can-take (settled s) _ _ (w .before .before .replace2 .ensures) (contribution-is (read s))
 
 add-to-requires : tie.Need-add-to-requires
 add-to-requires c κs =
-    let x = tested (c .before .before .before .before .before .before .before .before .before) in
-    let a = asked x .args in
-    let p = settled x in (
-      (simp length-set (p .given .outstanding-length), p .calls-length, whole x),
-      λ k.
-          omega (
-            arith,
-            set-all (λ n y. y ≤ getD (a .t1 .called) n 0) (a .t1 .outstanding) (a .member - 1) 0 (p .given .outstanding-fits) zero-le k,
-            p .calls-within k,
-          ),
-    )
+    let w = c .before .before .before .before .before .before .before in
+    let s = tested (w .before .before .before .before .before .before) in
+    let p = can-add (settled s) _ (w .replace3 .ensures) in
+    ((p .0, settled s .calls-length, whole s), p .1)
 
 add-to-requires-2 : tie.Need-add-to-requires-2
 add-to-requires-2 c κs =
-    let x = tested (c .before .before .before .before .before .before .before .before .before .before .before .before .before) in
-    let p = settled x in
-    ((p .given .called-length, p .calls-length, whole x), p .calls-within)
-
-cast-t24 : tie.Need-cast-t24
-cast-t24 c =
-    omega (arith, fallen-fits (passed (tested (c .before .before .before .before .before .before .before .before .before .before .before .before .before .before))))
+    let s = tested (c .before .before .before .before .before .before .before .before .before .before .before .before .before .before .before .before .before) in
+    let p = settled s in
+    ((p .given .called-length, p .calls-length, whole s), p .calls-within)
 
 same-length : tie.Need-same-length
 same-length c = search needs
 
 returns-3 : tie.Need-returns-3
 returns-3 c =
-    let w = c .before .before .before .before .before .before .before .before .before .before .before .before .before .before in
-    let x = tested w in
-    let e = passed x in
-    let a = asked x .args in
-    accepted-so (a .t1) (a .member) (a .loss) (a .ranks .now) (a .slip .now) (asked x .pre) _ _ _ _ (placed x) (early-none e) (w .before .before .before .before .if2 .left) _
-    (rw (margin-is e, contribution-is e, c .before .before .before .before .before .before .before .before .take-from .ensures, c .before .before .before .before .add-to .ensures, c .add-to2 .ensures)) _ (w .before .before .tell .ensures)
+    let o = c .before .before .before .before in
+    let t = o .before .before .before .before in
+    let w3 = t .before .before .before .before in
+    let w = w3 .before .before .before .before .before .before in
+    let s = tested w in
+    let f = read s in
+    let a = start s .args in
+    accepted-so (a .t1) (a .member) (a .loss) (a .ranks .now) (a .slip .now) (start s .pre) _ _ _ _ (placed s) (early-none (passed f)) (w .before .before .before .before .if2 .left) _
+    (settled-as (a .t1) (a .member) _ _ _ _ _ _ (margin-is f) (contribution-is f) (others-are f) (w3 .before .before .before .before .replace .ensures) (w3 .before .before .replace2 .ensures) (t .take-from .ensures) (w3 .replace3 .ensures) (o .add-to .ensures) (c .add-to2 .ensures))
+    _ (w .before .before .tell .ensures)
 
 pub declare-spec : {M : Type 1} → statement M
 declare-spec =
@@ -258,39 +225,23 @@ declare-spec =
     (tie.spec
     default-refusal-requires
     returns
-    sub-at
-    array-write-others
-    mul-fallen
-    element-copy-out-fallen
-    cast-place
+    defaulted-requires
+    figure-of-requires
+    figure-of-requires-2
+    figure-of-requires-3
     add-place
-    mul-place
-    element-copy-out-place
-    cast-place-2
-    mul-place-2
-    element-copy-out-place-2
-    cast-place-3
     place-requires
     returns-2
     tell-requires
-    element-write-register
-    cast-register
-    mul-register
-    element-copy-out-register
+    sub-replace
+    replace-requires
+    sub-replace-2
+    replace-requires-2
+    replace-requires-3
     sub-register
-    element-write-register-2
-    cast-register-2
-    mul-register-2
-    element-copy-out-register-2
     sub-register-2
-    element-write-register-3
-    mul-register-3
-    element-write-register-4
-    sub-register-3
-    sub-register-4
     take-from-requires
     add-to-requires
     add-to-requires-2
-    cast-t24
     same-length
     returns-3)

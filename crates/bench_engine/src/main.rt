@@ -1,7 +1,5 @@
 // Runs one case of the benchmarks so many times and prints a checksum of the answers, which must equal the Rust implementation's.
 // The cases: distinct, tied and calls REPS, and sizing REPS STRESS SHARES.
-mod defaults;
-mod fold;
 mod sheets_read;
 mod sizings;
 
@@ -35,11 +33,11 @@ fn run_default(case: &[u8], turns: u64) {
         return;
     }
     if words::same(case, b"distinct") {
-        say(defaults::distinct(turns));
+        say(bench_defaults::distinct(turns));
     } else if words::same(case, b"tied") {
-        say(defaults::tied(turns));
+        say(bench_defaults::tied(turns));
     } else if words::same(case, b"calls") {
-        say(defaults::calls(turns));
+        say(bench_defaults::calls(turns));
     } else {
         usage();
     }

@@ -1,6 +1,6 @@
 // Repeated sizings of the fund.
-use crate::fold::fold;
 use crate::sheets_read::read;
+use bench_defaults::fold::fold;
 use sizing::Sized;
 use sizing::size;
 

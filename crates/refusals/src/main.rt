@@ -11,6 +11,11 @@
 //
 // A line without a label prints nothing: it makes the register that the calls below it are tried on. A call with a label hands nothing on. A refusal
 // that altered a slip or a register is told, and so is a refused opening that handed back a member or a tranche.
+use cases::Given;
+use cases::before;
+use cases::bytes;
+use cases::figures;
+use cases::from;
 use libc::STDIN_FILENO;
 use libc::STDOUT_FILENO;
 use waterfall::Outcome;
@@ -24,141 +29,8 @@ use waterfall::replenishment::replenish;
 use waterfall::view::MemberView;
 use waterfall::view::member;
 use waterfall::view::tranches;
-ghost use mathlib.Core.Path.{_≡_};
 ghost use Prim.Native.Nat.{_≤_};
-ghost use lib.ListN.{length};
 ghost use Rattle.waterfall.specs.Register.{GivenBack};
-
-// Where the byte first stands, the length where it does not.
-fn find(s: &[u8], byte: u8) -> usize
-    ensures { λ r. ⌜ r ≤ length (now (s .entry)) ⌝ }
-{
-    let mut i = 0;
-    while i < s.len() {
-        if s[i] == byte {
-            return i;
-        }
-        i += 1;
-    }
-    i
-}
-
-fn before(s: &[u8], byte: u8) -> &[u8]
-    ensures { λ r. ⌜ length (now r) ≤ length (now (s .entry)) ⌝ }
-{
-    let at = find(s, byte);
-    &s[0..at]
-}
-
-// From the byte on.
-fn from(s: &[u8], byte: u8) -> &[u8] {
-    let at = find(s, byte);
-    &s[at..]
-}
-
-// One digit more.
-fn grown(value: u64, byte: u8) -> u64 {
-    let digit = match byte {
-        b'0'..=b'9' => (byte - b'0') as u64,
-        _ => {
-            return value;
-        }
-    };
-    if value <= (u64::MAX - digit) / 10 {
-        return value * 10 + digit;
-    }
-    value
-}
-
-// The numbers behind the first five spaces, each at its place from 1 on; a word there is 0.
-fn numbers(words: &[u8]) -> [u64; 6] {
-    let mut out = [0u64; 6];
-    let mut at = 0;
-    let mut i = 0;
-    while i < words.len() {
-        if words[i] == b' ' {
-            at += 1;
-        }
-        if 6 <= at {
-            return out;
-        }
-        out[at] = grown(out[at], words[i]);
-        i += 1;
-    }
-    out
-}
-
-// How many numbers or bytes of a buffer are handed over.
-fn least(count: u64, room: usize) -> usize
-    ensures { λ r. ⌜ r ≤ room ⌝ }
-{
-    if count < room as u64 {
-        return count as usize;
-    }
-    room
-}
-
-// The numbers of a line, of which the third and the fourth count what is handed over.
-struct Given {
-    first: u64,
-    second: u64,
-    third: usize,
-    fourth: usize,
-}
-
-fn figures(words: &[u8]) -> Given
-    ensures { λ r. ⌜ (r .third ≤ 96) × (r .fourth ≤ 130) ⌝ }
-{
-    let n = numbers(words);
-    Given {
-        first: n[2],
-        second: n[3],
-        third: least(n[4], 96),
-        fourth: least(n[5], 130),
-    }
-}
-
-// The value of a hexadecimal digit, 16 for any other byte.
-fn digit(byte: u8) -> u8
-    ensures { λ r. ⌜ r ≤ 16 ⌝ }
-{
-    match byte {
-        b'0'..=b'9' => byte - b'0',
-        b'a'..=b'f' => byte - b'a' + 10,
-        _ => 16,
-    }
-}
-
-// A sheet, or ranks, in a buffer.
-struct Buffer {
-    list: [u8; 96],
-    count: usize,
-}
-
-// The bytes that pairs of hexadecimal digits say; `blank` behind them.
-fn bytes(digits: &[u8], blank: u8) -> Buffer
-    ensures { λ r. ⌜ (r .count ≤ 96) × (length (r .list) ≡ 96) ⌝ }
-{
-    let mut list = [blank; 96];
-    let mut taken = 0;
-    let mut i = 0;
-    while i < digits.len() {
-        if 192 <= taken {
-            return Buffer { list, count: 96 };
-        }
-        let d = digit(digits[i]);
-        if d < 16 {
-            let at = taken / 2;
-            list[at] = list[at] % 16 * 16 + d;
-            taken += 1;
-        }
-        i += 1;
-    }
-    Buffer {
-        list,
-        count: taken / 2,
-    }
-}
 
 // Says what was answered, and where a refusal altered what it was lent.
 fn say(label: &[u8], number: u64, position: u64, kept: bool) {

@@ -1,8 +1,8 @@
 -- `fill` is safe and ends.
 use Prim.Native.Nat.{_-_, _≤_}
 use borrow.Author.Needs.{needs}
-use Rattle.bench_engine.proofs.defaults.fill.Statement.{statement}
-use Rattle.bench_engine.proofs.defaults.fill.Tie as tie
+use Rattle.bench_defaults.proofs.fill.Statement.{statement}
+use Rattle.bench_defaults.proofs.fill.Tie as tie
 
 abbrev Inv-loop : tie.InvT-loop
 Inv-loop sheet₀ i₀ sheet i = i ≤ 64

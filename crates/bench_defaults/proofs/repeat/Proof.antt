@@ -1,17 +1,19 @@
--- `repeat` is safe and ends.
+-- `repeat` is safe and ends; without a turn it sums nothing.
 use Prim.Native.Nat.{_-_, _≤_}
+use mathlib.Core.Path.{_≡_, refl}
+use native.Mathlib.Omega.{arith}
 use borrow.Author.Needs.{needs}
-use Rattle.bench_engine.proofs.defaults.repeat.Statement.{statement}
-use Rattle.bench_engine.proofs.defaults.repeat.Tie as tie
+use Rattle.bench_defaults.proofs.repeat.Statement.{statement}
+use Rattle.bench_defaults.proofs.repeat.Tie as tie
 
 abbrev Inv-loop : tie.InvT-loop
-Inv-loop register loss ranks turns slip₀ sum₀ turn₀ slip sum turn = turn ≤ turns
+Inv-loop register loss ranks turns slip₀ sum₀ turn₀ slip sum turn = (turn ≤ turns) × ((turn ≡ 0) → (sum ≡ 0))
 
 abbrev μ-loop : tie.MeasureT-loop
 μ-loop register loss ranks turns slip₀ sum₀ turn₀ slip sum turn = turns - turn
 
 loop-holds : tie.Need-loop-holds Inv-loop μ-loop
-loop-holds c = search needs
+loop-holds c = (search needs, λ e. refl)
 
 once-requires : tie.Need-once-requires Inv-loop μ-loop
 once-requires c κs = search needs
@@ -29,10 +31,10 @@ loop-less : tie.Need-loop-less Inv-loop μ-loop
 loop-less c = search needs
 
 loop-again : tie.Need-loop-again Inv-loop μ-loop
-loop-again c = search needs
+loop-again c = (search needs, λ e. omega arith)
 
 returns : tie.Need-returns Inv-loop μ-loop
-returns c = search needs
+returns c = λ e. c .before .loop .inv .1 (omega arith)
 
 pub repeat-spec : {M : Type 1} → statement M
 repeat-spec =

@@ -1,9 +1,9 @@
--- `refusals::numbers` reads and writes within its lists and ends.
+-- `cases::numbers` reads and writes within its lists and ends.
 use Prim.Native.Nat.{_≤_, _-_}
 use lib.ListN.{length}
 use borrow.Author.Needs.{needs}
-use Rattle.refusals.proofs.numbers.Statement.{statement}
-use Rattle.refusals.proofs.numbers.Tie as tie
+use Rattle.cases.proofs.numbers.Statement.{statement}
+use Rattle.cases.proofs.numbers.Tie as tie
 
 abbrev Inv-loop : tie.InvT-loop
 Inv-loop words out₀ at₀ i₀ out at i = (i ≤ length words) × (at ≤ 5)

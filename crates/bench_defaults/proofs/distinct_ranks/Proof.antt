@@ -1,8 +1,8 @@
 -- `distinct_ranks` is safe and ends.
 use Prim.Native.Nat.{_-_, _≤_}
 use borrow.Author.Needs.{needs}
-use Rattle.bench_engine.proofs.defaults.distinct_ranks.Statement.{statement}
-use Rattle.bench_engine.proofs.defaults.distinct_ranks.Tie as tie
+use Rattle.bench_defaults.proofs.distinct_ranks.Statement.{statement}
+use Rattle.bench_defaults.proofs.distinct_ranks.Tie as tie
 
 abbrev Inv-loop : tie.InvT-loop
 Inv-loop ranks₀ i₀ ranks i = i ≤ 64

@@ -1,11 +1,11 @@
--- `refusals::bytes` reads and writes within its lists, ends, and takes at most 192 digits.
+-- `cases::bytes` reads and writes within its lists, ends, and takes at most 192 digits.
 use Prim.Native.Nat.{_≤_, _-_}
 use mathlib.Core.Path.{_≡_, _∙_, ap}
 use mathlib.Core.Logic.{⊎-elim}
 use lib.ListN.{length, length-set}
 use borrow.Author.Needs.{needs}
-use Rattle.refusals.proofs.bytes.Statement.{statement}
-use Rattle.refusals.proofs.bytes.Tie as tie
+use Rattle.cases.proofs.bytes.Statement.{statement}
+use Rattle.cases.proofs.bytes.Tie as tie
 
 abbrev Inv-loop : tie.InvT-loop
 Inv-loop digits blank list₀ taken₀ i₀ list taken i = (i ≤ length digits) × (taken ≤ 192) × (length list ≡ 96)

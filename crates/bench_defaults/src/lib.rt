@@ -1,4 +1,6 @@
 // Repeated defaults of member 17 of one register of 64 members.
+pub mod fold;
+
 use crate::fold::fold;
 use rows::Row;
 use rows::put_row;
@@ -8,6 +10,7 @@ use waterfall::Register;
 use waterfall::Reply;
 use waterfall::declaration::declare;
 use waterfall::opening::open;
+ghost use mathlib.Core.Path.{_≡_};
 ghost use Prim.Native.Nat.{_≤_};
 ghost use Rattle.waterfall.specs.Register.{GivenBack};
 
@@ -79,6 +82,7 @@ fn once(
 
 fn repeat(register: Register, loss: u64, ranks: &[u8; 64], turns: u64) -> u64
     requires { ⌜ GivenBack register × (loss ≤ 100_000_000) ⌝ }
+    ensures { λ r. ⌜ ((turns ≡ 0) → (r ≡ 0)) ⌝ }
 {
     let mut slip = [0u64; 128];
     let mut sum: u64 = 0;
@@ -117,6 +121,7 @@ fn distinct_ranks() -> [u8; 64] {
 
 fn run(loss: u64, ranks: &[u8; 64], turns: u64) -> u64
     requires { ⌜ loss ≤ 100_000_000 ⌝ }
+    ensures { λ r. ⌜ ((turns ≡ 0) → (r ≡ 0)) ⌝ }
 {
     let sheet = register_sheet();
     let opened = open(&sheet, OWN);
@@ -127,17 +132,23 @@ fn run(loss: u64, ranks: &[u8; 64], turns: u64) -> u64
     0
 }
 
-pub fn distinct(turns: u64) -> u64 {
+pub fn distinct(turns: u64) -> u64
+    ensures { λ r. ⌜ ((turns ≡ 0) → (r ≡ 0)) ⌝ }
+{
     let ranks = distinct_ranks();
     run(IN_LAYER_4, &ranks, turns)
 }
 
-pub fn tied(turns: u64) -> u64 {
+pub fn tied(turns: u64) -> u64
+    ensures { λ r. ⌜ ((turns ≡ 0) → (r ≡ 0)) ⌝ }
+{
     let ranks = [9u8; 64];
     run(IN_LAYER_4, &ranks, turns)
 }
 
-pub fn calls(turns: u64) -> u64 {
+pub fn calls(turns: u64) -> u64
+    ensures { λ r. ⌜ ((turns ≡ 0) → (r ≡ 0)) ⌝ }
+{
     let ranks = distinct_ranks();
     run(IN_LAYER_6, &ranks, turns)
 }

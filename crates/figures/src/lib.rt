@@ -73,6 +73,15 @@ fn less(figure: u32, amount: u64) -> u32
     figure - amount as u32
 }
 
+// The figures with an amount taken from that of a member.
+pub fn lower(figures: &mut [u32; 64], member: u64, amount: u64)
+    requires { ⌜ (length (now figures) ≡ memberLimit) × ((0 < member) × (member ≤ memberLimit)) × (amount ≤ figure (now figures) member) ⌝ }
+    ensures { λ _. ⌜ now (figures .exit) ≡ replace (now (figures .entry)) member (figure (now (figures .entry)) member - amount) ⌝ }
+{
+    let at = (member - 1) as usize;
+    figures[at] = less(figures[at], amount);
+}
+
 // The figures with the amounts taken from them, place by place.
 pub fn take_from(figures: &mut [u32; 64], amounts: &[u64; 64])
     requires { ⌜ (length (now figures) ≡ memberLimit) × (length (now amounts) ≡ memberLimit) ⌝ }

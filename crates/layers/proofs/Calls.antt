@@ -6,13 +6,15 @@ use mathlib.Core.List.{List, _++_}
 use native.Mathlib.Omega.{arith}
 use lib.ListN.{length, take, drop, replicate}
 use lib.Seq.{take-at, drop-at, drop-drop}
-use Rattle.lists.specs.Limits.{memberLimit}
+use Rattle.lists.specs.Limits.{memberLimit, allocationLimit}
 use Rattle.lists.specs.Sums.{total}
 use Rattle.lists.proofs.Sums.{zeros, getD-zeros}
 use Rattle.split.specs.Split.{splitOf, exceeds}
 use Rattle.split.proofs.Laws.{length-split, total-within, exceeds-none}
-use Rattle.layers.specs.Layers.{gives}
-use Rattle.layers.specs.Parts.{Calls}
+use Rattle.figures.specs.Figures.{liveIn, inDefault, figure, replace}
+use Rattle.layers.specs.Layers.{gives, rooms}
+use Rattle.layers.specs.Parts.{Roomy, Chargeable, Allocatable, Calls, GoesDown}
+use Rattle.layers.specs.declared.Placed.{Placed}
 
 -- what a layer gives and leaves of the same sum and the same resource
 pub layer-as : (g l left left′ has has′ : ℕ) → (g ≡ gives left has) × (l ≡ left - gives left has) → left ≡ left′ → has ≡ has′
@@ -66,3 +68,14 @@ slip-written charged called slip s1 s2 l e1 e2 =
     let rest : drop (memberLimit + memberLimit) s1 ≡ drop (memberLimit + memberLimit) slip =
     sym (drop-drop memberLimit memberLimit s1) ∙ ap (drop memberLimit) back ∙ drop-drop memberLimit memberLimit slip in
     e2 ∙ rw (front, rest)
+
+-- a default is placed by the figures that were read of its lists: `others` are the statuses once the defaulter is in default
+module _ (status margins contributions outstanding cap called : List ℕ) (member loss : ℕ) (ranks : List ℕ) (p : Allocatable status margins contributions outstanding cap called member loss ranks)
+    (others : List ℕ) (fallen : ℕ) (marked : others ≡ replace status member inDefault) (read : fallen ≡ figure outstanding member) where
+  pub placed-with : (loss + fallen ≤ allocationLimit) × Chargeable others contributions ranks × Roomy others cap called
+  placed-with = rw (marked, read) (p .sum-fits, p .chargeable, p .roomy)
+
+  pub placed-from : (margin contribution tranche1 tranche2 : ℕ) (x : Placed) → margin ≡ figure margins member → contribution ≡ figure contributions member
+      → GoesDown loss fallen margin contribution tranche1 tranche2 (liveIn others) contributions (rooms (liveIn others) cap called) ranks x
+      → GoesDown loss (figure outstanding member) (figure margins member) (figure contributions member) tranche1 tranche2 (liveIn (replace status member inDefault)) contributions (rooms (liveIn (replace status member inDefault)) cap called) ranks x
+  placed-from margin contribution tranche1 tranche2 x m c d = rw (marked, read, m, c) at d

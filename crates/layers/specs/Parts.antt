@@ -1,14 +1,14 @@
 -- What the parts of `layers` promise each other and their callers. No rule of document 01 is here.
-use Prim.Native.Nat.{ℕ, _-_, _≤_}
+use Prim.Native.Nat.{ℕ, _+_, _-_, _≤_, _<_}
 use mathlib.Core.Path.{_≡_}
 use mathlib.Core.Bool.{Bool, false, _||_}
 use mathlib.Core.List.{List}
 use lib.ListN.{length, getD}
-use Rattle.lists.specs.Limits.{memberLimit, amountLimit}
+use Rattle.lists.specs.Limits.{memberLimit, amountLimit, allocationLimit}
 use Rattle.lists.specs.Sums.{total, keep}
 use Rattle.split.specs.Split.{splitOf, exceeds}
 use Rattle.ranks.specs.Ranks.{chargesOf}
-use Rattle.figures.specs.Figures.{liveIn}
+use Rattle.figures.specs.Figures.{liveIn, inDefault, figure, replace}
 use Rattle.admission.specs.Admission.{misranked}
 use Rattle.layers.specs.Layers.{gives}
 use Rattle.layers.specs.declared.Placed.{Placed}
@@ -29,6 +29,16 @@ pub record Chargeable (status contribution ranks : List ℕ) : Type 0 where
   pub contribution-fits : (k : ℕ) → getD contribution k 0 ≤ amountLimit
   pub well-ranked : misranked (liveIn status) ranks ≡ false
 
+-- what a default is placed with that 11 to 15 do not refuse
+pub record Allocatable (status margins contributions outstanding cap called : List ℕ) (member loss : ℕ) (ranks : List ℕ) : Type 0 where
+  pub member-least : 0 < member
+  pub member-most : member ≤ memberLimit
+  pub margins-length : length margins ≡ memberLimit
+  pub outstanding-length : length outstanding ≡ memberLimit
+  pub sum-fits : loss + figure outstanding member ≤ allocationLimit
+  pub chargeable : Chargeable (replace status member inDefault) contributions ranks
+  pub roomy : Roomy (replace status member inDefault) cap called
+
 -- the calls, their total, what is left after them, and whether one passes its room
 pub record Calls (rooms : List ℕ) (left : ℕ) (calls : List ℕ) (called rest : ℕ) (over : Bool) : Type 0 where
   pub total-is : called ≡ gives left (total rooms)
@@ -40,13 +50,14 @@ pub record Calls (rooms : List ℕ) (left : ℕ) (calls : List ℕ) (called rest
 abbrev pub Leaves : ℕ → ℕ → ℕ → ℕ → Type 0
 Leaves left has given rest = (given ≡ gives left has) × (rest ≡ left - gives left has)
 
--- a sum goes down the six layers; `left1` to `left5` are what is left after each
-pub record GoesDown (sum margin contribution tranche1 tranche2 : ℕ) (others : List Bool) (contributions rooms ranks : List ℕ) (placed : Placed) : Type 0 where
+-- a loss and a fallen call go down the six layers; `left1` to `left5` are what is left after each
+pub record GoesDown (loss fallen margin contribution tranche1 tranche2 : ℕ) (others : List Bool) (contributions rooms ranks : List ℕ) (placed : Placed) : Type 0 where
   pub left1 : ℕ
   pub left2 : ℕ
   pub left3 : ℕ
   pub left5 : ℕ
-  pub layer1 : Leaves sum margin (placed .margin) left1
+  pub fallen-is : placed .fallen ≡ fallen
+  pub layer1 : Leaves (loss + fallen) margin (placed .margin) left1
   pub layer2 : Leaves left1 contribution (placed .contribution) left2
   pub layer3 : Leaves left2 tranche1 (placed .tranche1) left3
   pub charges-are : placed .charges ≡ chargesOf left3 (keep others contributions) ranks

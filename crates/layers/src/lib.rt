@@ -1,6 +1,8 @@
 // What a default takes, layer by layer, from lists of figures: document 01, "Declaring a default". It knows nothing of registers.
 // `status` is that of the members once the defaulter is in default, so that the live ones are the others.
 use figures::LIVE;
+use figures::defaulted;
+use figures::figure_of;
 use figures::write;
 use lists::MEMBER_LIMIT;
 use ranks::Charged;
@@ -16,9 +18,9 @@ ghost use Rattle.lists.specs.Limits.{memberLimit, allocationLimit};
 ghost use Rattle.lists.specs.Sums.{total, keep};
 ghost use Rattle.split.specs.Split.{exceeds};
 ghost use Rattle.ranks.specs.Ranks.{chargesOf};
-ghost use Rattle.figures.specs.Figures.{live, liveIn};
+ghost use Rattle.figures.specs.Figures.{figure, live, liveIn, others};
 ghost use Rattle.layers.specs.Layers.{gives, rooms};
-ghost use Rattle.layers.specs.Parts.{Roomy, Chargeable, Calls, GoesDown};
+ghost use Rattle.layers.specs.Parts.{Roomy, Chargeable, Calls, GoesDown, Allocatable};
 
 // What a layer gives, and what is left after it.
 struct Given {
@@ -40,8 +42,9 @@ struct Called {
     over: bool,
 }
 
-// What the six layers give, what is left after them, and whether a share passes what it is drawn from.
+// The fallen call, what the six layers give, what is left after them, and whether a share passes what it is drawn from.
 pub struct Placed {
+    pub fallen: u64,
     pub margin: u64,
     pub contribution: u64,
     pub tranche1: u64,
@@ -167,9 +170,10 @@ fn call_others<'a>(
     }
 }
 
-// The six layers, one after the other: `sum` goes down them.
-pub fn place<'a>(
-    sum: u64,
+// The six layers, one after the other: the loss and the fallen call go down them.
+fn place<'a>(
+    loss: u64,
+    fallen: u64,
     margin: u64,
     contribution: u64,
     tranche1: u64,
@@ -180,10 +184,10 @@ pub fn place<'a>(
     called: &'a [u32; 64],
     ranks: &[u8],
 ) -> Placed
-    requires { ⌜ (sum ≤ allocationLimit) × Chargeable (now status) (now contributions) (now ranks) × Roomy (now status) (now cap) (now called) ⌝ }
-    ensures { λ r. ⌜ GoesDown sum margin contribution tranche1 tranche2 (liveIn (now (status .entry))) (now (contributions .entry)) (rooms (liveIn (now (status .entry))) (now (cap .entry)) (now (called .entry))) (now (ranks .entry)) r ⌝ }
+    requires { ⌜ (loss + fallen ≤ allocationLimit) × Chargeable (now status) (now contributions) (now ranks) × Roomy (now status) (now cap) (now called) ⌝ }
+    ensures { λ r. ⌜ GoesDown loss fallen margin contribution tranche1 tranche2 (liveIn (now (status .entry))) (now (contributions .entry)) (rooms (liveIn (now (status .entry))) (now (cap .entry)) (now (called .entry))) (now (ranks .entry)) r ⌝ }
 {
-    let first = layer(sum, margin);
+    let first = layer(loss + fallen, margin);
     let second = layer(first.left, contribution);
     let third = layer(second.left, tranche1);
     let fourth = charge_others(status, contributions, third.left, ranks);
@@ -192,6 +196,7 @@ pub fn place<'a>(
     let charges = fourth.charges;
     let calls = sixth.calls;
     Placed {
+        fallen,
         margin: first.gives,
         contribution: second.gives,
         tranche1: third.gives,
@@ -203,6 +208,39 @@ pub fn place<'a>(
         called: calls,
         over: fourth.over | sixth.over,
     }
+}
+
+// A default that 11 to 15 do not refuse, by the figures of the register that it is declared in. Nothing is changed yet.
+pub fn allocate<'a>(
+    status: [u8; 64],
+    margins: &'a [u32; 64],
+    contributions: &'a [u32; 64],
+    outstanding: &'a [u32; 64],
+    cap: &'a [u32; 64],
+    called: &'a [u32; 64],
+    tranche1: u64,
+    tranche2: u64,
+    member: u64,
+    loss: u64,
+    ranks: &[u8],
+) -> Placed
+    requires { ⌜ Allocatable status (now margins) (now contributions) (now outstanding) (now cap) (now called) member loss (now ranks) ⌝ }
+    ensures { λ r. ⌜ GoesDown loss (figure (now (outstanding .entry)) member) (figure (now (margins .entry)) member) (figure (now (contributions .entry)) member) tranche1 tranche2 (others status member) (now (contributions .entry)) (rooms (others status member) (now (cap .entry)) (now (called .entry))) (now (ranks .entry)) r ⌝ }
+{
+    let others = defaulted(status, member);
+    place(
+        loss,
+        figure_of(outstanding, member),
+        figure_of(margins, member),
+        figure_of(contributions, member),
+        tranche1,
+        tranche2,
+        &others,
+        contributions,
+        cap,
+        called,
+        ranks,
+    )
 }
 
 // "The slip's first 64 numbers receive each member's layer 4 charge, the next 64 its call": the slip is a lent buffer.

@@ -19,7 +19,7 @@ use Rattle.ranks.specs.Ranks.{chargesOf}
 use Rattle.figures.specs.Figures.{liveIn, inDefault, figure, replace, others}
 use Rattle.admission.specs.Admission.{misranked, admission}
 use Rattle.layers.specs.Layers.{gives, rooms}
-use Rattle.layers.specs.Parts.{Roomy, Chargeable, GoesDown}
+use Rattle.layers.specs.Parts.{Allocatable, GoesDown}
 use Rattle.layers.specs.declared.Placed.{Placed}
 use Rattle.waterfall.specs.Register.{GivenBack}
 use Rattle.waterfall.specs.Default.{roomsOf, fallenCall, toPlace, onMargin, after1, onContribution, after2, onTranche1, after3, charges, after4, onTranche2, after5, onCalls, calls, shortfall, allocationOf, settledBy, settledOf, overdrawn, defaultRefusal, defaultOf, defaultSlip}
@@ -76,53 +76,35 @@ module _ (r : Register) (member loss : ℕ) (ranks : List ℕ) (p : Placeable r 
   abbrev marked : List ℕ
   marked = replace (r .status) member inDefault
 
-  -- the defaulter's figures are amounts
-  pub margin-fits : figure (r .margin) member ≤ amountLimit
-  margin-fits = figure-bound (r .margin) amountLimit (p .given .margin-fits) member
-
-  pub contribution-fits : figure (r .contribution) member ≤ amountLimit
-  contribution-fits =
+  pub allocatable : Allocatable (r .status) (r .margin) (r .contribution) (r .outstanding) (r .cap) (r .called) member loss ranks
+  allocatable =
       let g = p .given in
-      figure-bound (r .contribution) amountLimit (λ k. omega (arith, g .contribution-fits k, g .requirement-fits k)) member
-
-  pub placed-fits : loss + figure (r .outstanding) member ≤ allocationLimit
-  placed-fits =
-      let g = p .given in
+      let marked-length = length-set (r .status) at inDefault ∙ g .status-length in
       let fallen = figure-bound (r .outstanding) amountLimit (λ k. omega (arith, g .outstanding-fits k, g .called-fits k, g .cap-fits k)) member in
-      omega (arith, fallen, p .loss-fits)
-
-  -- `status` is theirs once the defaulter is in default
-  pub chargeable : (status : List ℕ) → status ≡ marked → Chargeable status (r .contribution) ranks
-  chargeable status e =
-      let g = p .given in
-      rw e record {
-        status-length = length-set (r .status) at inDefault ∙ g .status-length;
-        contribution-length = g .contribution-length;
-        ranks-length = p .ranks-length;
-        contribution-fits = λ k. omega (arith, g .contribution-fits k, g .requirement-fits k);
-        well-ranked = p .well-ranked;
+      record {
+        member-least = p .member-least;
+        member-most = p .member-most;
+        margins-length = g .margin-length;
+        outstanding-length = g .outstanding-length;
+        sum-fits = omega (arith, fallen, p .loss-fits);
+        chargeable = record {
+          status-length = marked-length;
+          contribution-length = g .contribution-length;
+          ranks-length = p .ranks-length;
+          contribution-fits = λ k. omega (arith, g .contribution-fits k, g .requirement-fits k);
+          well-ranked = p .well-ranked;
+        };
+        roomy = record {
+          status-length = marked-length;
+          cap-length = g .cap-length;
+          called-length = g .called-length;
+          cap-fits = g .cap-fits;
+          called-fits = g .called-fits;
+        };
       }
 
-  pub roomy : (status : List ℕ) → status ≡ marked → Roomy status (r .cap) (r .called)
-  roomy status e =
-      let g = p .given in
-      rw e record {
-        status-length = length-set (r .status) at inDefault ∙ g .status-length;
-        cap-length = g .cap-length;
-        called-length = g .called-length;
-        cap-fits = g .cap-fits;
-        called-fits = g .called-fits;
-      }
-
-  -- what goes down the layers, by the figures that were read of the register
-  pub goes-down : (fallen margin contribution : ℕ) (status : List ℕ) (x : Placed)
-      → GoesDown (loss + fallen) margin contribution (r .tranche1) (r .tranche2) (liveIn status) (r .contribution) (rooms (liveIn status) (r .cap) (r .called)) ranks x
-      → fallen ≡ figure (r .outstanding) member → margin ≡ figure (r .margin) member → contribution ≡ figure (r .contribution) member → status ≡ marked
-      → GoesDown (loss + figure (r .outstanding) member) (figure (r .margin) member) (figure (r .contribution) member) (r .tranche1) (r .tranche2) (liveIn marked) (r .contribution) (rooms (liveIn marked) (r .cap) (r .called)) ranks x
-  goes-down fallen margin contribution status x d f m c e = rw (f, m, c, e) at d
-
-  -- and by what the register has
-  module _ (x : Placed) (d : GoesDown (loss + figure (r .outstanding) member) (figure (r .margin) member) (figure (r .contribution) member) (r .tranche1) (r .tranche2) (liveIn marked) (r .contribution) (rooms (liveIn marked) (r .cap) (r .called)) ranks x) where
+  -- what goes down the layers, by what the register has
+  module _ (x : Placed) (d : GoesDown loss (figure (r .outstanding) member) (figure (r .margin) member) (figure (r .contribution) member) (r .tranche1) (r .tranche2) (liveIn marked) (r .contribution) (rooms (liveIn marked) (r .cap) (r .called)) ranks x) where
     layer1-is : (x .margin ≡ onMargin r member loss) × (d .left1 ≡ after1 r member loss)
     unfolding onMargin after1 toPlace fallenCall
     layer1-is = layer-as _ _ _ _ _ _ (d .layer1) refl refl
@@ -147,9 +129,9 @@ module _ (r : Register) (member loss : ℕ) (ranks : List ℕ) (p : Placeable r 
     unfolding onTranche2 after5
     layer5-is = layer-as _ _ _ _ _ _ (d .layer5) left4-is refl
 
-    pub placed-so : (fallen : ℕ) → fallen ≡ figure (r .outstanding) member → Places r member loss ranks
+    pub placed-so : Places r member loss ranks
         (record {
-          fallen = fallen;
+          fallen = x .fallen;
           margin = x .margin;
           contribution = x .contribution;
           tranche1 = x .tranche1;
@@ -159,7 +141,7 @@ module _ (r : Register) (member loss : ℕ) (ranks : List ℕ) (p : Placeable r 
           short = x .short;
         }) (x .charges) (x .called) (x .over)
     unfolding allocationOf fallenCall onCalls calls shortfall roomsOf
-    placed-so fallen f =
+    placed-so =
         let s = d .layer6 in
         let five = layer5-is .1 in
         let called : x .called ≡ calls r member loss ranks =
@@ -167,7 +149,7 @@ module _ (r : Register) (member loss : ℕ) (ranks : List ℕ) (p : Placeable r 
         record {
           allocation-is =
               rw (
-                f,
+                d .fallen-is,
                 layer1-is .0,
                 layer2-is .0,
                 layer3-is .0,
@@ -222,9 +204,9 @@ module _ (r : Register) (member loss : ℕ) (ranks : List ℕ) (p : Placeable r 
 
 -- what the lists are once the defaulter's figures are settled
 module _ {r : Register} {member margin contribution tranche1 tranche2 : ℕ} {charges calls : List ℕ} (p : Settles r member margin contribution tranche1 tranche2 charges calls) where
-  pub can-take : (xs : List ℕ) (n : ℕ) → xs ≡ replace (r .contribution) member (n - contribution) → n ≡ figure (r .contribution) member
+  pub can-take : (xs : List ℕ) → xs ≡ replace (r .contribution) member (figure (r .contribution) member - contribution)
       → ((length xs ≡ memberLimit) × (length charges ≡ memberLimit)) × ((k : ℕ) → getD charges k 0 ≤ getD xs k 0)
-  can-take xs n e f = rw (e, f) ((simp length-set (p .given .contribution-length), p .charges-length), p .charges-within)
+  can-take xs e = rw e ((simp length-set (p .given .contribution-length), p .charges-length), p .charges-within)
 
   pub can-add : (xs : List ℕ) → xs ≡ replace (r .outstanding) member 0 → (length xs ≡ memberLimit) × ((k : ℕ) → getD xs k 0 + getD calls k 0 ≤ amountLimit)
   can-add xs e =
@@ -238,12 +220,11 @@ module _ {r : Register} {member margin contribution tranche1 tranche2 : ℕ} {ch
             ),
       )
 
--- a register whose lists are those, by the figures that were read
-pub settled-as : (r : Register) (member margin contribution tranche1 tranche2 : ℕ) (charges calls : List ℕ)
-    {m n : ℕ} {status margins kept contributions cleared outstanding called : List ℕ}
-    → m ≡ figure (r .margin) member → n ≡ figure (r .contribution) member
-    → status ≡ replace (r .status) member inDefault → margins ≡ replace (r .margin) member (m - margin)
-    → kept ≡ replace (r .contribution) member (n - contribution) → contributions ≡ minus kept charges
+-- a register whose lists are those
+pub settled-as : (r : Register) (member margin contribution tranche1 tranche2 : ℕ) (charges calls : List ℕ) {status margins kept contributions cleared outstanding called : List ℕ}
+    → status ≡ replace (r .status) member inDefault
+    → margins ≡ replace (r .margin) member (figure (r .margin) member - margin)
+    → kept ≡ replace (r .contribution) member (figure (r .contribution) member - contribution) → contributions ≡ minus kept charges
     → cleared ≡ replace (r .outstanding) member 0 → outstanding ≡ plus cleared calls → called ≡ plus (r .called) calls
     → record {
       status = status;
@@ -256,7 +237,7 @@ pub settled-as : (r : Register) (member margin contribution tranche1 tranche2 : 
       tranche1 = r .tranche1 - tranche1;
       tranche2 = r .tranche2 - tranche2;
     } ≡ settledBy r member margin contribution tranche1 tranche2 charges calls
-settled-as r member margin contribution tranche1 tranche2 charges calls e f a b c d g h i = rw (d, h, a, b, c, g, i, e, f)
+settled-as r member margin contribution tranche1 tranche2 charges calls a b c d e f g = rw (d, f, a, b, c, e, g)
 
 -- refusals -------------------------------------------------------------------------------
 

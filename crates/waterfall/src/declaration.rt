@@ -6,10 +6,10 @@ use crate::Reply;
 use admission::default_refusal;
 use figures::add_to;
 use figures::defaulted;
-use figures::figure_of;
+use figures::lower;
 use figures::replace;
 use figures::take_from;
-use layers::place;
+use layers::allocate;
 use layers::tell;
 ghost use mathlib.Core.Path.{_≡_};
 ghost use Rattle.waterfall.specs.Register.{GivenBack};
@@ -38,20 +38,17 @@ pub fn declare(
         };
     }
     // The six layers change nothing yet: 19 may still refuse the default.
-    let others = defaulted(status, member);
-    let fallen = figure_of(&register.outstanding, member);
-    let margin = figure_of(&register.margin, member);
-    let contribution = figure_of(&register.contribution, member);
-    let placed = place(
-        loss + fallen,
-        margin,
-        contribution,
-        register.tranche1,
-        register.tranche2,
-        &others,
+    let placed = allocate(
+        status,
+        &register.margin,
         &register.contribution,
+        &register.outstanding,
         &register.cap,
         &register.called,
+        register.tranche1,
+        register.tranche2,
+        member,
+        loss,
         ranks,
     );
     if placed.over {
@@ -62,13 +59,9 @@ pub fn declare(
     }
     // "Each charge leaves its pocket", and the defaulter is in default for good.
     tell(placed, slip);
-    register.status = others;
-    replace(&mut register.margin, member, margin - placed.margin);
-    replace(
-        &mut register.contribution,
-        member,
-        contribution - placed.contribution,
-    );
+    register.status = defaulted(status, member);
+    lower(&mut register.margin, member, placed.margin);
+    lower(&mut register.contribution, member, placed.contribution);
     replace(&mut register.outstanding, member, 0);
     register.tranche1 -= placed.tranche1;
     register.tranche2 -= placed.tranche2;
@@ -77,7 +70,7 @@ pub fn declare(
     add_to(&mut register.called, &placed.called, placed.calls);
     Outcome {
         reply: Reply::Allocated(Allocation {
-            fallen,
+            fallen: placed.fallen,
             margin: placed.margin,
             contribution: placed.contribution,
             tranche1: placed.tranche1,

@@ -13,6 +13,9 @@ use Rattle.layers.proofs.place.Tie as tie
 within : (a b c d s e m : ℕ) → a ≤ b - m → b ≤ c → c ≤ d → d ≤ s → s ≤ e → a ≤ e
 within a b c d s e m p q r t u = omega arith
 
+add-layer : tie.Need-add-layer
+add-layer c = search needs
+
 layer-requires : tie.Need-layer-requires
 layer-requires c κs = search needs
 
@@ -60,6 +63,7 @@ returns c =
       left2 = l .before .layer2 .result .left;
       left3 = l .layer3 .result .left;
       left5 = v .layer4 .result .left;
+      fallen-is = refl;
       layer1 = l .before .before .layer .ensures;
       layer2 = l .before .layer2 .ensures;
       layer3 = l .layer3 .ensures;
@@ -77,6 +81,7 @@ pub place-spec : {M : Type 1} → statement M
 place-spec =
     tie.close
     (tie.spec
+    add-layer
     layer-requires
     layer-requires-2
     layer-requires-3

@@ -118,18 +118,6 @@ pub fn add_to(figures: &mut [u32; 64], amounts: &[u64; 64], whole: u64)
     }
 }
 
-// The amounts as a register holds them.
-pub fn stored(amounts: &[u64; 64]) -> [u32; 64]
-    requires { ⌜ (length (now amounts) ≡ memberLimit) × ((k : ℕ) → getD (now amounts) k 0 ≤ amountLimit) ⌝ }
-    ensures { λ r. ⌜ r ≡ now (amounts .entry) ⌝ }
-{
-    let mut figures = [0u32; 64];
-    for i in 0..64 {
-        figures[i] = amounts[i] as u32;
-    }
-    figures
-}
-
 // The figures put into a lent buffer from `start` on.
 pub fn write(lent: &mut [u64], start: usize, figures: &[u64; 64])
     requires { ⌜ (length (now figures) ≡ memberLimit) × (start + memberLimit ≤ length (now lent)) ⌝ }

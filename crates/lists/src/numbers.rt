@@ -1,4 +1,4 @@
-// The lesser and the greater of two numbers; an amount that is held in 32 bits, in 64.
+// The lesser and the greater of two numbers; amounts that are held in 32 bits, in 64.
 ghost use mathlib.Core.Path.{_≡_};
 ghost use Prim.Native.Nat.{min, max};
 
@@ -24,4 +24,14 @@ pub fn wide(amount: u32) -> u64
     ensures { λ r. ⌜ r ≡ amount ⌝ }
 {
     amount as u64
+}
+
+pub fn widened(amounts: [u32; 64]) -> [u64; 64]
+    ensures { λ r. ⌜ r ≡ amounts ⌝ }
+{
+    let mut numbers = [0u64; 64];
+    for i in 0..64 {
+        numbers[i] = wide(amounts[i]);
+    }
+    numbers
 }

@@ -2,6 +2,7 @@
 use lists::AMOUNT_LIMIT;
 use lists::CONTRIBUTION_FLOOR;
 use lists::numbers::greater;
+use lists::numbers::widened;
 use sheets::columns::Columns;
 ghost use mathlib.Core.Path.{_≡_};
 ghost use mathlib.Core.Bool.{cond, _&&_};
@@ -32,13 +33,13 @@ pub struct Shared {
     pub requirements: [u64; 64],
 }
 
-fn added(column: [u64; 64]) -> u64
+fn added(column: [u32; 64]) -> u64
     requires { ⌜ ((k : ℕ) → getD column k 0 ≤ amountLimit) ⌝ }
     ensures { λ r. ⌜ r ≡ total column ⌝ }
 {
     let mut sum: u64 = 0;
     for i in 0..64 {
-        sum += column[i];
+        sum += column[i] as u64;
     }
     sum
 }
@@ -75,7 +76,7 @@ fn any_unshared(quantum: u64, totals: Totals) -> bool
 }
 
 // A part of the quantum by its column. Nothing is divided where there is nothing to share, or nobody to share it.
-fn part(sum: u64, whole: u64, weights: [u64; 64]) -> [u64; 64]
+fn part(sum: u64, whole: u64, weights: [u32; 64]) -> [u64; 64]
     requires { ⌜ (sum ≤ allocationLimit) × (whole ≡ total weights) × ((k : ℕ) → getD weights k 0 ≤ amountLimit) ⌝ }
     ensures { λ r. ⌜ r ≡ splitOf sum weights ⌝ }
 {
@@ -86,7 +87,8 @@ fn part(sum: u64, whole: u64, weights: [u64; 64]) -> [u64; 64]
     if whole == 0 {
         return shares;
     }
-    split::split(sum, whole, &weights, &mut shares);
+    let numbers = widened(weights);
+    split::split(sum, whole, &numbers, &mut shares);
     shares
 }
 

@@ -7,12 +7,12 @@ ghost use mathlib.Core.Path.{_≡_};
 ghost use Rattle.sheets.specs.Columns.{noColumns};
 ghost use Rattle.sheets.specs.Parts.{MembersRead};
 
-// A member sheet by member number, member 1 first; 0 where the sheet has no such member.
+// A member sheet by member number, member 1 first; 0 where the sheet has no such member. An amount is at most 400,000,000, and is held in 32 bits.
 pub struct Columns {
     pub present: [bool; 64],
-    pub first: [u64; 64],
-    pub second: [u64; 64],
-    pub third: [u64; 64],
+    pub first: [u32; 64],
+    pub second: [u32; 64],
+    pub third: [u32; 64],
 }
 
 pub struct Reading {
@@ -26,9 +26,9 @@ pub fn no_columns() -> Columns
 {
     Columns {
         present: [false; 64],
-        first: [0u64; 64],
-        second: [0u64; 64],
-        third: [0u64; 64],
+        first: [0u32; 64],
+        second: [0u32; 64],
+        third: [0u32; 64],
     }
 }
 
@@ -59,9 +59,9 @@ pub fn read(floor: u64, sheet: &[u8]) -> Reading
         };
         let place = (member - 1) as usize;
         columns.present[place] = true;
-        columns.first[place] = first;
-        columns.second[place] = second;
-        columns.third[place] = third;
+        columns.first[place] = first as u32;
+        columns.second[place] = second as u32;
+        columns.third[place] = third as u32;
         last = member;
         i += 1;
     }

@@ -1,18 +1,8 @@
 -- What the parts of `waterfall` promise each other. No rule of document 01 is here.
-use Prim.Native.Nat.{ℕ, _≤_}
+use Prim.Native.Nat.{ℕ}
 use mathlib.Core.Path.{_≡_}
-use lib.ListN.{getD}
-use Rattle.lists.specs.Limits.{amountLimit, sumLimit}
-use Rattle.sheets.specs.declared.columns.Columns.{Columns}
 use Rattle.figures.specs.Figures.{replace}
 use Rattle.waterfall.specs.declared.Register.{Register}
-
--- columns and an own contribution that a register can hold
-pub record Holdable (columns : Columns) (own : ℕ) : Type 0 where
-  pub first-fits : (k : ℕ) → getD (columns .first) k 0 ≤ amountLimit
-  pub second-fits : (k : ℕ) → getD (columns .second) k 0 ≤ amountLimit
-  pub third-fits : (k : ℕ) → getD (columns .third) k 0 ≤ amountLimit
-  pub own-fits : own ≤ sumLimit
 
 -- a register in which a member has `left` outstanding, and all else stands
 pub record Owes (r : Register) (member left : ℕ) (next : Register) : Type 0 where

@@ -2,7 +2,6 @@
 use crate::Opened;
 use crate::Register;
 use figures::statuses;
-use figures::stored;
 use lists::CONTRIBUTION_FLOOR;
 use lists::MEMBER_LIMIT;
 use lists::SUM_LIMIT;
@@ -12,20 +11,21 @@ use sheets::columns::no_columns;
 use sheets::columns::read;
 use sheets::missized;
 ghost use mathlib.Core.Path.{_≡_};
+ghost use Prim.Native.Nat.{_≤_};
+ghost use Rattle.lists.specs.Limits.{sumLimit};
 ghost use Rattle.sheets.specs.Sheet.{refusal};
 ghost use Rattle.waterfall.specs.Register.{GivenBack, emptyRegister};
 ghost use Rattle.waterfall.specs.Opening.{enteredOf, openedOf};
-ghost use Rattle.waterfall.specs.Parts.{Holdable};
 
 // The register with the members of the sheet.
 fn entered(columns: Columns, own: u64) -> Register
-    requires { ⌜ Holdable columns own ⌝ }
+    requires { ⌜ own ≤ sumLimit ⌝ }
     ensures { λ r. ⌜ r ≡ enteredOf columns own ⌝ }
 {
     let present = columns.present;
-    let margin = stored(&columns.first);
-    let contribution = stored(&columns.second);
-    let cap = stored(&columns.third);
+    let margin = columns.first;
+    let contribution = columns.second;
+    let cap = columns.third;
     let tranche1 = 60 * own / 100;
     Register {
         status: statuses(present),

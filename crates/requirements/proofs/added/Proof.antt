@@ -26,6 +26,9 @@ mul-sum c = search needs
 array-read-sum : tie.Need-array-read-sum Inv-loop μ-loop
 array-read-sum c = search needs
 
+cast-sum : tie.Need-cast-sum Inv-loop μ-loop
+cast-sum c = omega (arith, c .before .before .pre (c .before .loop .i))
+
 add-sum : tie.Need-add-sum Inv-loop μ-loop
 add-sum c = omega (arith, c .before .before .pre (c .before .loop .i))
 
@@ -53,6 +56,7 @@ added-spec =
     loop-holds
     mul-sum
     array-read-sum
+    cast-sum
     add-sum
     add-i
     loop-less

@@ -105,17 +105,26 @@ cast-place c = omega (arith, member-is c)
 element-write-columns : tie.Need-element-write-columns Inv-loop μ-loop
 element-write-columns c = omega (arith, member-is c)
 
+cast-columns : tie.Need-cast-columns Inv-loop μ-loop
+cast-columns c = omega (arith, order c .first-most)
+
 mul-columns : tie.Need-mul-columns Inv-loop μ-loop
 mul-columns c = omega (arith, member-is c)
 
 element-write-columns-2 : tie.Need-element-write-columns-2 Inv-loop μ-loop
 element-write-columns-2 c = omega (arith, member-is c)
 
+cast-columns-2 : tie.Need-cast-columns-2 Inv-loop μ-loop
+cast-columns-2 c = omega (arith, order c .second-most)
+
 mul-columns-2 : tie.Need-mul-columns-2 Inv-loop μ-loop
 mul-columns-2 c = omega (arith, member-is c)
 
 element-write-columns-3 : tie.Need-element-write-columns-3 Inv-loop μ-loop
 element-write-columns-3 c = omega (arith, member-is c)
+
+cast-columns-3 : tie.Need-cast-columns-3 Inv-loop μ-loop
+cast-columns-3 c = omega (arith, order c .third-most)
 
 mul-columns-3 : tie.Need-mul-columns-3 Inv-loop μ-loop
 mul-columns-3 c = omega (arith, member-is c)
@@ -175,10 +184,13 @@ read-spec =
     sub-place
     cast-place
     element-write-columns
+    cast-columns
     mul-columns
     element-write-columns-2
+    cast-columns-2
     mul-columns-2
     element-write-columns-3
+    cast-columns-3
     mul-columns-3
     element-write-columns-4
     add-i

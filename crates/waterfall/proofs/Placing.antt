@@ -202,15 +202,20 @@ module _ (r : Register) (member loss : ℕ) (ranks : List ℕ) (p : Placeable r 
   unfolding allocationOf
   settles-so a ch cs over w = rw (w .allocation-is, w .charges-are, w .calls-are) settles
 
+-- a fallen call "is no longer outstanding"
+cleared : {fallen figure : ℕ} → fallen ≡ figure → figure - fallen ≡ 0
+cleared f = omega arith
+
 -- what the lists are once the defaulter's figures are settled
 module _ {r : Register} {member margin contribution tranche1 tranche2 : ℕ} {charges calls : List ℕ} (p : Settles r member margin contribution tranche1 tranche2 charges calls) where
   pub can-take : (xs : List ℕ) → xs ≡ replace (r .contribution) member (figure (r .contribution) member - contribution)
       → ((length xs ≡ memberLimit) × (length charges ≡ memberLimit)) × ((k : ℕ) → getD charges k 0 ≤ getD xs k 0)
   can-take xs e = rw e ((simp length-set (p .given .contribution-length), p .charges-length), p .charges-within)
 
-  pub can-add : (xs : List ℕ) → xs ≡ replace (r .outstanding) member 0 → (length xs ≡ memberLimit) × ((k : ℕ) → getD xs k 0 + getD calls k 0 ≤ amountLimit)
-  can-add xs e =
-      rw e (
+  pub can-add : (fallen : ℕ) (xs : List ℕ) → fallen ≡ figure (r .outstanding) member → xs ≡ replace (r .outstanding) member (figure (r .outstanding) member - fallen)
+      → (length xs ≡ memberLimit) × ((k : ℕ) → getD xs k 0 + getD calls k 0 ≤ amountLimit)
+  can-add fallen xs f e =
+      rw (e, cleared f) (
         simp length-set (p .given .outstanding-length),
         λ k.
             omega (
@@ -221,11 +226,12 @@ module _ {r : Register} {member margin contribution tranche1 tranche2 : ℕ} {ch
       )
 
 -- a register whose lists are those
-pub settled-as : (r : Register) (member margin contribution tranche1 tranche2 : ℕ) (charges calls : List ℕ) {status margins kept contributions cleared outstanding called : List ℕ}
+pub settled-as : (r : Register) (member fallen margin contribution tranche1 tranche2 : ℕ) (charges calls : List ℕ) {status margins kept contributions left outstanding called : List ℕ}
     → status ≡ replace (r .status) member inDefault
     → margins ≡ replace (r .margin) member (figure (r .margin) member - margin)
     → kept ≡ replace (r .contribution) member (figure (r .contribution) member - contribution) → contributions ≡ minus kept charges
-    → cleared ≡ replace (r .outstanding) member 0 → outstanding ≡ plus cleared calls → called ≡ plus (r .called) calls
+    → left ≡ replace (r .outstanding) member (figure (r .outstanding) member - fallen) → outstanding ≡ plus left calls → called ≡ plus (r .called) calls
+    → fallen ≡ figure (r .outstanding) member
     → record {
       status = status;
       margin = margins;
@@ -237,7 +243,7 @@ pub settled-as : (r : Register) (member margin contribution tranche1 tranche2 : 
       tranche1 = r .tranche1 - tranche1;
       tranche2 = r .tranche2 - tranche2;
     } ≡ settledBy r member margin contribution tranche1 tranche2 charges calls
-settled-as r member margin contribution tranche1 tranche2 charges calls a b c d e f g = rw (d, f, a, b, c, e, g)
+settled-as r member fallen margin contribution tranche1 tranche2 charges calls a b c d e f g h = rw (d, f, a, b, c, e, g, cleared h)
 
 -- refusals -------------------------------------------------------------------------------
 

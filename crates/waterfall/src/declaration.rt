@@ -7,7 +7,6 @@ use admission::default_refusal;
 use figures::add_to;
 use figures::defaulted;
 use figures::lower;
-use figures::replace;
 use figures::take_from;
 use layers::allocate;
 use layers::tell;
@@ -62,7 +61,7 @@ pub fn declare(
     register.status = defaulted(status, member);
     lower(&mut register.margin, member, placed.margin);
     lower(&mut register.contribution, member, placed.contribution);
-    replace(&mut register.outstanding, member, 0);
+    lower(&mut register.outstanding, member, placed.fallen);
     register.tranche1 -= placed.tranche1;
     register.tranche2 -= placed.tranche2;
     take_from(&mut register.contribution, &placed.charges);

@@ -6,6 +6,7 @@ use borrow.Author.Needs.{needs}
 use lib.ListN.{length}
 use Rattle.lists.specs.Limits.{memberLimit}
 use Rattle.lists.specs.Sums.{total}
+use Rattle.figures.specs.Figures.{figure}
 use Rattle.admission.specs.Admission.{admission}
 use Rattle.waterfall.proofs.Placing.{Placeable, Places, Settles, refused-early, refused-late, accepted-so, placeable, allocatable, placed-so, called-total, settles-so, can-take, can-add, settled-as}
 use Rattle.waterfall.proofs.declaration.declare.Statement.{statement}
@@ -36,6 +37,9 @@ module _ (s : tie.After-allocate) where
 
   at : (0 < start .args .member) × (start .args .member ≤ memberLimit)
   at = (can passed .0 .member-least, can passed .0 .member-most)
+
+  fallen-is : s .allocate .result .fallen ≡ figure (start .args .t1 .outstanding) (start .args .member)
+  fallen-is = s .allocate .ensures .fallen-is
 
   placed : let a = start .args in let x = s .allocate .result in
       Places (a .t1) (a .member) (a .loss) (a .ranks .now)
@@ -106,10 +110,10 @@ lower-requires-2 c κs =
     let s = tested (c .before .before .before .before) in
     (start s .pre .contribution-length, at s, settled s .contribution-within)
 
-replace-requires : tie.Need-replace-requires
-replace-requires c κs =
+lower-requires-3 : tie.Need-lower-requires-3
+lower-requires-3 c κs =
     let s = tested (c .before .before .before .before .before .before) in
-    (start s .pre .outstanding-length, at s, omega arith)
+    (start s .pre .outstanding-length, at s, omega (arith, fallen-is s))
 
 sub-register : tie.Need-sub-register
 sub-register c = omega (arith, settled (tested (c .before .before .before .before .before .before .before)) .tranche1-within)
@@ -126,7 +130,7 @@ add-to-requires : tie.Need-add-to-requires
 add-to-requires c κs =
     let w = c .before .before .before .before .before .before .before in
     let s = tested (w .before .before .before .before .before .before .before) in
-    let p = can-add (settled s) _ (w .replace .ensures) in
+    let p = can-add (settled s) _ _ (fallen-is s) (w .lower3 .ensures) in
     ((p .0, settled s .calls-length, whole s), p .1)
 
 add-to-requires-2 : tie.Need-add-to-requires-2
@@ -147,7 +151,7 @@ returns-3 c =
     let s = tested w in
     let a = start s .args in
     accepted-so (a .t1) (a .member) (a .loss) (a .ranks .now) (a .slip .now) (start s .pre) _ _ _ _ (placed s) (early-none (passed s)) (w .before .before .before .before .if2 .left) _
-    (settled-as (a .t1) (a .member) _ _ _ _ _ _ (r .before .before .before .before .before .before .defaulted .ensures) (r .before .before .before .before .lower .ensures) (r .before .before .lower2 .ensures) (t .take-from .ensures) (r .replace .ensures) (o .add-to .ensures) (c .add-to2 .ensures))
+    (settled-as (a .t1) (a .member) _ _ _ _ _ _ _ (r .before .before .before .before .before .before .defaulted .ensures) (r .before .before .before .before .lower .ensures) (r .before .before .lower2 .ensures) (t .take-from .ensures) (r .lower3 .ensures) (o .add-to .ensures) (c .add-to2 .ensures) (fallen-is s))
     _ (w .before .before .tell .ensures)
 
 pub declare-spec : {M : Type 1} → statement M
@@ -162,7 +166,7 @@ declare-spec =
     defaulted-requires
     lower-requires
     lower-requires-2
-    replace-requires
+    lower-requires-3
     sub-register
     sub-register-2
     take-from-requires

@@ -1,20 +1,18 @@
 -- A default as the code does it: its layers one after the other, what is settled, and its refusals.
 use Prim.Native.Nat.{ℕ, _+_, _-_, _≤_, _<_, zero-le}
 use mathlib.Core.Path.{_≡_, refl, ap, sym, _∙_}
-use mathlib.Core.Bool.{Bool, true, false, _||_}
-use mathlib.Core.List.{List, _++_, map}
+use mathlib.Core.Bool.{Bool, true, false}
+use mathlib.Core.List.{List, _++_}
 use native.Mathlib.Omega.{arith}
-use lib.Dec.{eqb}
-use lib.ListN.{length, getD, take, drop, set, replicate, length-set}
-use lib.Seq.{take-at, drop-at, drop-drop, getD-set-same}
+use lib.ListN.{length, getD, drop, length-set}
+use lib.Seq.{getD-set-same}
 use Rattle.lists.specs.Checks.{check}
-use Rattle.lists.specs.Limits.{memberLimit, amountLimit, sumLimit, allocationLimit}
+use Rattle.lists.specs.Limits.{memberLimit, amountLimit, sumLimit}
 use Rattle.lists.specs.Sums.{total, plus, minus, keep}
-use Rattle.lists.proofs.Checks.{Row, row-end, row-check, check-lt, check-true, check-false}
+use Rattle.lists.proofs.Checks.{Row, check-lt, check-true, check-false}
 use Rattle.lists.proofs.Places.{set-all}
-use Rattle.lists.proofs.Sums.{unkept, zeros, getD-zeros}
-use Rattle.split.specs.Split.{splitOf, exceeds}
-use Rattle.split.proofs.Laws.{length-split, total-within, exceeds-none}
+use Rattle.lists.proofs.Sums.{unkept}
+use Rattle.split.specs.Split.{splitOf}
 use Rattle.ranks.specs.Ranks.{chargesOf}
 use Rattle.figures.specs.Figures.{liveIn, inDefault, figure, replace, others}
 use Rattle.admission.specs.Admission.{misranked, admission}
@@ -31,7 +29,7 @@ use Rattle.waterfall.specs.declared.Reply.the-variants.{Refused, Allocat
 use Rattle.admission.proofs.Admitted.{admitted, admission-row}
 use Rattle.layers.proofs.Calls.{layer-as, whole-called}
 use Rattle.waterfall.proofs.Answer.{refused, accepted, says-allocated}
-use Rattle.waterfall.proofs.Default.{unmarked, rooms-within, charges-within, calls-within, margin-gives, contribution-gives, tranche1-gives, tranche2-gives, never-overdrawn, charges-placed, charges-weighed}
+use Rattle.waterfall.proofs.Default.{unmarked, rooms-within, charges-within, calls-within, margin-gives, contribution-gives, tranche1-gives, tranche2-gives, charges-weighed}
 use Rattle.figures.proofs.Figures.{figure-bound, figure-place}
 use Rattle.waterfall.proofs.Given.{length-calls, length-charged, given-default}
 

@@ -1,23 +1,29 @@
 -- The one pass over a stress sheet: what holds before each record, from the first to past the last.
 use Prim.Native.Nat.{ℕ, zero, suc, _+_, _-_, _*_, _≤_, _<_, max, zero-le}
 use mathlib.Core.Path.{_≡_, refl, ap, sym, _∙_}
-use mathlib.Core.Bool.{Bool, true, false, cond}
+use mathlib.Core.Bool.{Bool, true, false, _||_, not, cond}
 use mathlib.Core.List.{List, [], _∷_}
 use native.Mathlib.Nat.{le-trans}
 use native.Mathlib.Omega.{arith}
+use borrow.Author.Tests.{le-ltb, ltb-false, not-true, not-false}
 use lib.Dec.{ltb}
+use lib.ListN.{length}
 use Rattle.lists.specs.Limits.{amountLimit, weakLimit}
 use Rattle.lists.proofs.Sums.{cond-le}
-use Rattle.lists.proofs.Checks.{check-by, check-true, check-false, check-nlt}
+use Rattle.lists.proofs.Checks.{check-by, check-true, check-false, check-nlt, neither}
 use Rattle.sheets.specs.Bytes.{recordAt, nonzero}
-use Rattle.sheets.specs.Sheet.{recordCount}
-use Rattle.stress.specs.Stress.{weakAt, lossAt, beforeAll, oneBlock}
+use Rattle.sheets.specs.Sheet.{refusal, recordCount}
+use Rattle.sheets.specs.declared.Refusal.{Refusal}
+use Rattle.stress.specs.Stress.{weakAt, lossAt, beforeAll, oneBlock, stressNumber, stressRefusal}
+use Rattle.stress.specs.Parts.{blockBeyond}
 use Rattle.stress.specs.declared.Before.{Before}
-use Rattle.stress.proofs.Laws.{LossInOrder}
+use Rattle.stress.specs.declared.Stress.the-variants.{Outside}
+use Rattle.stress.proofs.Laws.{LossInOrder, block-outside, stress-begins, stress-refused-here}
 use Rattle.lists.specs.Highest.{highest, without}
 use Rattle.cover.specs.Cover.{StressLoss, lossRecord, recordsFrom, recordsOf, blocksFrom, blocksOf, memberLosses, flaggedLoss, flaggedSum, coverOf, weakOf}
-use Rattle.cover.specs.Parts.{blockOf, worseOf, Slight, Bounded}
+use Rattle.cover.specs.Parts.{blockOf, worseOf, Slight, Bounded, StressRead}
 use Rattle.cover.specs.declared.Block.{Block}
+use Rattle.cover.specs.declared.Covered.{Covered}
 use Rattle.cover.specs.declared.Worst.{Worst}
 use Rattle.lists.proofs.Highest.{without-le}
 use Rattle.cover.proofs.Blocks.{worstOf, nothing, worst-of-all}
@@ -69,6 +75,32 @@ pass-begins sheet block e =
       second-most = omega arith;
       flagged-most = omega arith;
       bounded = record { cover-most = zero-le; weak-most = zero-le };
+    }
+
+-- its day and scenario are tried before the pass begins
+module _ (sheet : List ℕ) (begins : Bool) (is : begins ≡ (ltb (length sheet) 16 || not (blockBeyond sheet))) where
+  pub first-known : not begins ≡ false → 0 < recordCount sheet → blockBeyond sheet ≡ false
+  first-known h more =
+      let long = le-ltb (length sheet) 16 (omega arith) in
+      not-true (blockBeyond sheet) (sym (rw long at is) ∙ not-false begins h)
+
+  pub first-refused : not begins ≡ true → (0 < stressNumber Outside) × (refusal (stressNumber Outside) 1 ≡ stressRefusal sheet)
+  first-refused h =
+      let n = neither (ltb (length sheet) 16) (not (blockBeyond sheet)) (sym is ∙ not-true begins h) in
+      let more : 0 < recordCount sheet = omega (arith, ltb-false (length sheet) 16 (n .0)) in
+      let here = stress-refused-here sheet (recordCount sheet) 0 beforeAll more Outside (block-outside beforeAll sheet (not-false (blockBeyond sheet) (n .1))) (omega arith) in
+      (omega arith, sym here ∙ stress-begins sheet)
+
+-- what a refused sheet reads as
+pub refused-read : {sheet : List ℕ} {n position : ℕ} {reading : Covered} → (reading .refusal ≡ refusal n position) × (reading .cover ≡ 0) × (reading .weak ≡ 0)
+    → (0 < n) × (refusal n position ≡ stressRefusal sheet) → StressRead sheet reading
+refused-read p q =
+    record {
+      refused = p .0 ∙ q .1;
+      cover-is = λ z. absurd (omega (arith, ap (λ (x : Refusal). x .number) (p .0), q .0));
+      weak-is = λ z. absurd (omega (arith, ap (λ (x : Refusal). x .number) (p .0), q .0));
+      cover-most = omega (arith, p .1);
+      weak-most = omega (arith, p .2);
     }
 
 -- what is kept of a block that a record joins stays within its limits

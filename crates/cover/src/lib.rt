@@ -5,14 +5,20 @@ use sheets::Refusal;
 use stress::Before;
 use stress::Stress;
 use stress::losses::one_block;
+use stress::losses::placed;
 use stress::losses::stress;
 use stress::losses::stress_number;
 ghost use mathlib.Core.Path.{_≡_};
-ghost use mathlib.Core.Bool.{cond};
+ghost use mathlib.Core.Bool.{cond, _||_, not};
 ghost use mathlib.Core.List.{List, [], _∷_};
 ghost use Prim.Native.Nat.{_+_, _≤_};
+ghost use lib.Dec.{ltb};
+ghost use lib.ListN.{length};
 ghost use Rattle.lists.specs.Limits.{amountLimit};
 ghost use Rattle.sheets.specs.Bytes.{nonzero};
+ghost use Rattle.sheets.specs.Sheet.{refusal};
+ghost use Rattle.stress.specs.Stress.{stressNumber};
+ghost use Rattle.stress.specs.Parts.{blockBeyond};
 ghost use Rattle.cover.specs.Cover.{StressLoss};
 ghost use Rattle.cover.specs.Parts.{blockOf, worseOf, Slight, StressRead};
 
@@ -110,10 +116,35 @@ fn opened(block: Block, same: bool) -> Block
     no_block()
 }
 
+// Whether day and scenario of the first record, if there is one, are within their values. The later ones of its block are as good.
+fn begins(sheet: &[u8]) -> bool
+    ensures { λ r. ⌜ r ≡ (ltb (length (now (sheet .entry))) 16 || not (blockBeyond (now (sheet .entry)))) ⌝ }
+{
+    if sheet.len() < 16 {
+        return true;
+    }
+    placed(sheet)
+}
+
+// A sheet that is refused for one record: no figures.
+fn refused(found: Stress, position: usize) -> Covered
+    ensures { λ r. ⌜ (r .refusal ≡ refusal (stressNumber found) position) × (r .cover ≡ 0) × (r .weak ≡ 0) ⌝ }
+{
+    let number = stress_number(found);
+    Covered {
+        refusal: Refusal { number, position },
+        cover: 0,
+        weak: 0,
+    }
+}
+
 // 4 to 8 record by record, and C and W of a sheet in order.
 pub fn read(sheet: &[u8]) -> Covered
     ensures { λ r. ⌜ StressRead (now (sheet .entry)) r ⌝ }
 {
+    if !begins(sheet) {
+        return refused(Stress::Outside, 1);
+    }
     let end = sheet.len() / 16 * 16;
     let mut before = Before {
         day: 0,
@@ -132,13 +163,7 @@ pub fn read(sheet: &[u8]) -> Covered
             before: next,
         } = found
         else {
-            let number = stress_number(found);
-            let position = at / 16 + 1;
-            return Covered {
-                refusal: Refusal { number, position },
-                cover: 0,
-                weak: 0,
-            };
+            return refused(found, at / 16 + 1);
         };
         let same = one_block(next.day, next.scenario, before);
         worst = ended(worst, block, same);

@@ -5,16 +5,17 @@ use mathlib.Core.Bool.{true, false, not}
 use mathlib.Core.List.{List, [], _∷_}
 use mathlib.Core.Logic.{_⊎_, inl, inr, ⊎-elim}
 use native.Mathlib.Omega.{arith}
-use borrow.Author.Tests.{ltb-true, ltb-false, eqb-true, not-false}
-use lib.Dec.{ltb}
+use borrow.Author.Tests.{ltb-true, ltb-false, le-ltb, eqb-true, not-false}
+use lib.Dec.{eqb, ltb}
 use denote.Enum.Declared.{tagOf}
 use types.Run.{OneOf, miss}
 use Rattle.lists.specs.Checks.{check, refuses}
 use Rattle.lists.specs.Limits.{memberLimit, amountLimit, dayLimit, scenarioLimit, weakLimit}
-use Rattle.lists.proofs.Checks.{check-past, check-lt, check-nlt, neither, either, both}
+use Rattle.lists.proofs.Checks.{check-past, check-true, check-lt, check-nlt, neither, either, both}
 use Rattle.sheets.specs.Bytes.{recordAt, absentAmount}
 use Rattle.sheets.specs.Sheet.{refusal, noRefusal, recordCount}
 use Rattle.stress.specs.Stress.{dayAt, scenarioAt, stressedAt, weakAt, lossAt, beforeAll, passed, stressOutside, stressRises, sixthWeak, stressOf, stressNumber, stressRefusalFrom, stressRefusal}
+use Rattle.stress.specs.Parts.{blockBeyond, Known}
 use Rattle.stress.specs.declared.Before.{Before}
 use Rattle.stress.specs.declared.Stress.{Stress}
 use Rattle.stress.specs.declared.Stress.the-variants.{Outside, Missing, Excessive, NotRising, SixthWeak, Loss}
@@ -123,6 +124,23 @@ stress-loss before s loss weak next e =
       flags-most = rw en (ltb-false _ _ (f .0));
       rises = rw en (stress-rising before s (not-false _ (r .0)));
     }
+
+-- day and scenario of a record in order are known for the next record of its block
+pub known-after : (before next : Before) (s later : List ℕ) (loss weak : ℕ) → LossInOrder before s loss weak next → Known next later
+known-after before next s later loss weak o e =
+    let b = both (eqb (dayAt later) (next .day)) (eqb (scenarioAt later) (next .scenario)) e in
+    rw (
+      eqb-true (dayAt later) (next .day) (b .0),
+      eqb-true (scenarioAt later) (next .scenario) (b .1),
+      le-ltb (next .day) 1 (o .day-least),
+      le-ltb dayLimit (next .day) (o .day-most),
+      le-ltb (next .scenario) 1 (o .scenario-least),
+      le-ltb scenarioLimit (next .scenario) (o .scenario-most),
+    )
+
+pub block-outside : (before : Before) (s : List ℕ) → blockBeyond s ≡ true → stressOf before s ≡ Outside
+unfolding stressOf stressOutside
+block-outside before s e = sym (check-true _ _ _ (rw e refl) refl)
 
 pub stress-refuses : (e : Stress) → OneOf (0 ∷ 1 ∷ 2 ∷ 3 ∷ 4 ∷ []) (tagOf Stress'.the-type e) → 0 < stressNumber e
 stress-refuses Outside k = omega arith

@@ -1,7 +1,7 @@
 -- The tests that the code makes on numbers of several bytes are those that document 01 names byte by byte.
 use Prim.Native.Nat.{ℕ, _+_, _-_, _*_}
 use mathlib.Core.Path.{_≡_, refl, ap, sym, _∙_}
-use mathlib.Core.Bool.{Bool, true, false, _||_, _&&_, not, and-assoc, or-true, Bool·not-not}
+use mathlib.Core.Bool.{Bool, true, false, _||_, _&&_, not, and-assoc, or-assoc, or-true, Bool·not-not}
 use mathlib.Core.List.{List}
 use mathlib.Core.Logic.{⊎-elim}
 use native.Mathlib.Nat.{eq-zero-or-pos}
@@ -13,8 +13,8 @@ use Rattle.lists.specs.Limits.{missingAmount, memberLimit, amountLimit, dayLimi
 use Rattle.lists.proofs.Checks.{check-true, check-false, check-no, check-not-no, neither, both}
 use Rattle.lists.proofs.Tests.{positive-sum, positive-multiple, zero-test, not-or, not-both}
 use Rattle.sheets.specs.Bytes.{byte, le16, le32, absentAmount, beyond, nonzero}
-use Rattle.stress.specs.Stress.{dayAt, scenarioAt, stressedAt, weakAt, lossAt, sameBlock, flagsBefore, passed, stressBeyond, stressOutside, stressRises, sixthWeak, stressOf}
-use Rattle.stress.specs.Parts.{le64, stressFaulty, laterBlock}
+use Rattle.stress.specs.Stress.{dayAt, scenarioAt, stressedAt, weakAt, lossAt, sameBlock, flagsBefore, passed, stressOutside, stressRises, sixthWeak, stressOf}
+use Rattle.stress.specs.Parts.{le64, blockBeyond, figuresFaulty, stressFaulty, laterBlock}
 use Rattle.stress.specs.declared.Before.{Before}
 use Rattle.stress.specs.declared.Stress.{Stress}
 use Rattle.stress.specs.declared.Stress.the-variants.{Excessive, NotRising, SixthWeak, Loss}
@@ -59,20 +59,31 @@ tail-by-number s =
     simp (lt-ltb amountLimit (lossAt s) (omega arith), lt-leb (lossAt s + le32 s 12 * 4_294_967_296) amountLimit (omega arith), or-true))
     (eq-zero-or-pos (lossAt s - amountLimit))
 
-pub valued-by-parts : (s : List ℕ)
-    → (not (beyond 1 dayLimit (dayAt s)) && not (beyond 1 scenarioLimit (scenarioAt s)) && not (beyond 1 memberLimit (stressedAt s)) && not (beyond 0 1 (weakAt s)))
-    ≡ not (stressBeyond s)
-valued-by-parts s = simp not-or
+pub placed-by-parts : (s : List ℕ) → (not (beyond 1 dayLimit (dayAt s)) && not (beyond 1 scenarioLimit (scenarioAt s))) ≡ not (blockBeyond s)
+placed-by-parts s = sym (not-or (beyond 1 dayLimit (dayAt s)) (beyond 1 scenarioLimit (scenarioAt s)))
 
-pub outside-by-values : (s : List ℕ) (valued : Bool) → valued ≡ not (stressBeyond s)
-    → (not valued || nonzero (byte s 6) || nonzero (byte s 7) || nonzero (byte s 12) || nonzero (byte s 13) || nonzero (byte s 14) || nonzero (byte s 15)) ≡ stressOutside s
+pub outside-by-block : (s : List ℕ) (placed : Bool) → placed ≡ not (blockBeyond s)
+    → (not placed || beyond 1 memberLimit (stressedAt s) || beyond 0 1 (weakAt s)
+    || nonzero (byte s 6) || nonzero (byte s 7) || nonzero (byte s 12) || nonzero (byte s 13) || nonzero (byte s 14) || nonzero (byte s 15))
+    ≡ stressOutside s
 unfolding stressOutside
-outside-by-values s valued e = rw (e, Bool·not-not (stressBeyond s))
+outside-by-block s placed e = rw (e, Bool·not-not (blockBeyond s))
 
-pub sound-by-number : (s : List ℕ) (valued : Bool) → valued ≡ not (stressBeyond s)
-    → (valued && eqb (le16 s 6) 0 && leb (le64 s 8) amountLimit) ≡ not (stressFaulty s)
-unfolding stressOutside stressFaulty
-sound-by-number s valued e = rw e (simp (zero-test, tail-by-number s, nonzero-le16, nonzero-le32, not-or, and-assoc))
+pub filled-by-number : (s : List ℕ)
+    → (not (beyond 1 memberLimit (stressedAt s)) && not (beyond 0 1 (weakAt s)) && eqb (le16 s 6) 0 && leb (le64 s 8) amountLimit) ≡ not (figuresFaulty s)
+unfolding figuresFaulty
+filled-by-number s = simp (zero-test, tail-by-number s, nonzero-le16, nonzero-le32, not-or, and-assoc)
+
+faulty-by-block : (s : List ℕ) → stressFaulty s ≡ (blockBeyond s || figuresFaulty s)
+unfolding stressOutside stressFaulty figuresFaulty
+faulty-by-block s = simp or-assoc
+
+-- a record whose day and scenario are known to be within their values, and one whose are tried
+pub sound-within : (s : List ℕ) (filled : Bool) → filled ≡ not (figuresFaulty s) → blockBeyond s ≡ false → filled ≡ not (stressFaulty s)
+sound-within s filled e k = rw (faulty-by-block s, k) e
+
+pub sound-tried : (s : List ℕ) (placed filled : Bool) → placed ≡ not (blockBeyond s) → filled ≡ not (figuresFaulty s) → (placed && filled) ≡ not (stressFaulty s)
+sound-tried s placed filled p e = rw (p, e, faulty-by-block s) (sym (not-or (blockBeyond s) (figuresFaulty s)))
 
 -- what the answer of `sound` says of them
 pub faulty-as : {t : Bool} (s : List ℕ) (sound : Bool) → sound ≡ not (stressFaulty s) → not sound ≡ t → stressFaulty s ≡ t

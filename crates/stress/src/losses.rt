@@ -13,32 +13,31 @@ use sheets::bytes::le16;
 use sheets::bytes::le32;
 use sheets::bytes::nonzero;
 ghost use mathlib.Core.Path.{_≡_};
-ghost use mathlib.Core.Bool.{true, not};
+ghost use mathlib.Core.Bool.{true, false, not};
 ghost use Prim.Native.Nat.{_+_, _≤_};
 ghost use lib.ListN.{length};
 ghost use Rattle.lists.specs.Limits.{weakLimit};
 ghost use Rattle.sheets.specs.Bytes.{absentAmount};
-ghost use Rattle.stress.specs.Stress.{lossAt, weakAt, oneBlock, sameBlock, flagsBefore, passed, stressBeyond, stressOutside, stressRises, stressOf, stressNumber};
-ghost use Rattle.stress.specs.Parts.{le64, laterBlock, stressFaulty};
+ghost use Rattle.stress.specs.Stress.{lossAt, weakAt, oneBlock, sameBlock, flagsBefore, passed, stressOutside, stressRises, stressOf, stressNumber};
+ghost use Rattle.stress.specs.Parts.{le64, blockBeyond, figuresFaulty, stressFaulty, laterBlock, Known};
 
 const MEMBERS: u64 = lists::MEMBER_LIMIT as u64;
 
-// Whether day, scenario, member and flag are within their values.
-fn valued(s: &[u8]) -> bool
+// Whether day and scenario are within their values.
+pub fn placed(s: &[u8]) -> bool
     requires { ⌜ 16 ≤ length (now s) ⌝ }
-    ensures { λ r. ⌜ r ≡ not (stressBeyond (now (s .entry))) ⌝ }
+    ensures { λ r. ⌜ r ≡ not (blockBeyond (now (s .entry))) ⌝ }
 {
-    !beyond(1, DAY_LIMIT, le16(s, 0))
-        & !beyond(1, SCENARIO_LIMIT, le16(s, 2))
-        & !beyond(1, MEMBERS, byte(s, 4))
-        & !beyond(0, 1, byte(s, 5))
+    !beyond(1, DAY_LIMIT, le16(s, 0)) & !beyond(1, SCENARIO_LIMIT, le16(s, 2))
 }
 
 fn outside(s: &[u8]) -> bool
     requires { ⌜ 16 ≤ length (now s) ⌝ }
     ensures { λ r. ⌜ r ≡ stressOutside (now (s .entry)) ⌝ }
 {
-    !valued(s)
+    !placed(s)
+        | beyond(1, MEMBERS, byte(s, 4))
+        | beyond(0, 1, byte(s, 5))
         | nonzero(s, 6)
         | nonzero(s, 7)
         | nonzero(s, 12)
@@ -61,13 +60,27 @@ fn le64(s: &[u8], at: usize) -> u64
     le32(s, at) + le32(s, at + 4) * 4_294_967_296
 }
 
-// Whether none of 4, 5 and 6 refuses the record. Bytes 8 to 15 are one number here: it is the loss where the last four are zero, and
-// above every limit where they are not.
-fn sound(s: &[u8]) -> bool
+// Whether nothing but day and scenario can be what 4, 5 and 6 refuse. Bytes 8 to 15 are one number here: it is the loss where the last four
+// are zero, and above every limit where they are not.
+fn filled(s: &[u8]) -> bool
     requires { ⌜ 16 ≤ length (now s) ⌝ }
+    ensures { λ r. ⌜ r ≡ not (figuresFaulty (now (s .entry))) ⌝ }
+{
+    !beyond(1, MEMBERS, byte(s, 4))
+        & !beyond(0, 1, byte(s, 5))
+        & (le16(s, 6) == 0)
+        & (le64(s, 8) <= AMOUNT_LIMIT)
+}
+
+// Whether none of 4, 5 and 6 refuses the record. Of a record of the block before, day and scenario were tried with the block's first.
+fn sound(same: bool, s: &[u8]) -> bool
+    requires { ⌜ (16 ≤ length (now s)) × (same ≡ true → blockBeyond (now s) ≡ false) ⌝ }
     ensures { λ r. ⌜ r ≡ not (stressFaulty (now (s .entry))) ⌝ }
 {
-    valued(s) & (le16(s, 6) == 0) & (le64(s, 8) <= AMOUNT_LIMIT)
+    if same {
+        return filled(s);
+    }
+    placed(s) & filled(s)
 }
 
 // The first of 4, 5 and 6 that refuses the record, where one does.
@@ -148,13 +161,13 @@ fn in_order(flags: u64, s: &[u8]) -> Stress
 
 // The record at the start of `s`, after what stands before it.
 pub fn stress(before: Before, s: &[u8]) -> Stress
-    requires { ⌜ (16 ≤ length (now s)) × (before .flags ≤ weakLimit) ⌝ }
+    requires { ⌜ (16 ≤ length (now s)) × (before .flags ≤ weakLimit) × Known before (now s) ⌝ }
     ensures { λ r. ⌜ r ≡ stressOf before (now (s .entry)) ⌝ }
 {
-    if !sound(s) {
+    let same = same_block(before, s);
+    if !sound(same, s) {
         return fault(s);
     }
-    let same = same_block(before, s);
     if !rises(before, same, s) {
         return Stress::NotRising;
     }

@@ -1,5 +1,5 @@
 -- `stress::losses::stress` meets its contract.
-use mathlib.Core.Path.{_≡_, refl}
+use mathlib.Core.Path.{_≡_, refl, sym, _∙_}
 use mathlib.Core.Bool.{false}
 use lib.Dec.{ltb}
 use borrow.Author.Needs.{needs}
@@ -15,7 +15,7 @@ use Rattle.stress.proofs.losses.stress.Statement.{statement}
 use Rattle.stress.proofs.losses.stress.Tie as tie
 
 -- past the first test
-no-fault : (c : tie.Else1) → stressFaulty (c .before .before .before .args .s .now) ≡ false
+no-fault : (c : tie.Else1) → stressFaulty (c .before .before .before .before .args .s .now) ≡ false
 no-fault c = faulty-as _ _ (c .before .sound .ensures) (c .if1 .left)
 
 -- and past the second
@@ -28,10 +28,13 @@ risen : {x : Stress} (c : tie.After-flags-to) →
     → x ≡ stressOf (a .before) (a .s .now)
 risen c q =
     let r = c .before in
-    past-rising _ _ _ _ (no-fault (r .before .before .before)) (r .before .rises .ensures) (r .if2 .left) (c .flags-to .ensures) q
+    past-rising _ _ _ _ (no-fault (r .before .before)) (r .before .rises .ensures) (r .if2 .left) (c .flags-to .ensures) q
+
+same-block-requires : tie.Need-same-block-requires
+same-block-requires c κs = search needs
 
 sound-requires : tie.Need-sound-requires
-sound-requires c κs = search needs
+sound-requires c κs = (search needs, λ e. c .before .before .pre .2 (sym (c .same-block .ensures) ∙ e))
 
 fault-requires : tie.Need-fault-requires
 fault-requires c κs = (search needs, faulty-as _ _ (c .before .sound .ensures) (c .if1 .taken))
@@ -39,14 +42,11 @@ fault-requires c κs = (search needs, faulty-as _ _ (c .before .sound .ensures) 
 returns : tie.Need-returns
 returns c = c .fault .ensures _
 
-same-block-requires : tie.Need-same-block-requires
-same-block-requires c κs = search needs
-
 rises-requires : tie.Need-rises-requires
 rises-requires c κs = search needs
 
 returns-2 : tie.Need-returns-2
-returns-2 c = past-faults _ _ (no-fault (c .before .before .before)) (search (answers, needs) depth 10)
+returns-2 c = past-faults _ _ (no-fault (c .before .before)) (search (answers, needs) depth 10)
 
 flags-to-requires : tie.Need-flags-to-requires
 flags-to-requires c κs = search needs
@@ -66,10 +66,10 @@ pub stress-spec : {M : Type 1} → statement M
 stress-spec =
     tie.close
     (tie.spec
+    same-block-requires
     sound-requires
     fault-requires
     returns
-    same-block-requires
     rises-requires
     returns-2
     flags-to-requires

@@ -66,6 +66,7 @@ pub fn replace(figures: &mut [u32; 64], member: u64, figure: u64)
     figures[(member - 1) as usize] = figure as u32;
 }
 
+// A figure less an amount of it.
 fn less(figure: u32, amount: u64) -> u32
     requires { ⌜ amount ≤ figure ⌝ }
     ensures { λ r. ⌜ r ≡ figure - amount ⌝ }
@@ -95,6 +96,7 @@ pub fn take_from(figures: &mut [u32; 64], amounts: &[u64; 64])
     }
 }
 
+// A figure with an amount that it has room for.
 fn more(figure: u32, amount: u64) -> u32
     requires { ⌜ figure + amount ≤ amountLimit ⌝ }
     ensures { λ r. ⌜ r ≡ figure + amount ⌝ }

@@ -1,4 +1,4 @@
--- Layers one after the other, the calls of layer 6, and what the slip receives.
+-- Layers one after the other, the calls of layer 6, a default placed with the figures that are read, and what the slip receives.
 use Prim.Native.Nat.{ℕ, _+_, _-_, _≤_}
 use mathlib.Core.Path.{_≡_, refl, ap, sym, _∙_}
 use mathlib.Core.Bool.{Bool, false}

@@ -8,10 +8,9 @@ use native.Mathlib.Numerals.{add-one}
 use native.Mathlib.Omega.{arith}
 use lib.ListN.{length, getD, drop, replicate, drop-of-length-le}
 use lib.Seq.{drop-cons}
-use Rattle.lists.specs.Limits.{memberLimit, amountLimit, allocationLimit, contributionFloor}
+use Rattle.lists.specs.Limits.{memberLimit, allocationLimit, contributionFloor}
 use Rattle.lists.specs.Sums.{total, plus, keep}
 use Rattle.lists.proofs.Sums.{all-zeros}
-use Rattle.split.specs.Parts.{Splits}
 use Rattle.split.specs.Split.{splitOf}
 use Rattle.split.proofs.Laws.{length-split, total-of-none, split-le}
 
@@ -39,9 +38,3 @@ joined-step ps xs ys zs i r hp hx hy hz e =
 
 pub joined-end : (ps : List Bool) (xs ys zs : List ℕ) (i : ℕ) → length ps ≤ i → joinedOf (drop i ps) (drop i xs) (drop i ys) (drop i zs) ≡ []
 joined-end ps xs ys zs i h = rw (drop-of-length-le ps h)
-
--- a split over a column that was widened
-pub splits-as : (sum whole : ℕ) (found weights shares : List ℕ) → found ≡ weights → sum ≤ allocationLimit → whole ≡ total weights → ((k : ℕ) → getD weights k 0 ≤ amountLimit)
-    → length weights ≡ memberLimit → length shares ≡ memberLimit → Splits sum whole found shares
-splits-as sum whole found weights shares e s w f l m =
-    rw e record { sum-fits = s; whole-is = w; weights-fit = f; few = omega arith; as-many = m ∙ sym l }

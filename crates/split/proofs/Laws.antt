@@ -1,6 +1,6 @@
 -- The laws of `splitOf`: what the callers of `split` know of its shares.
 use Prim.Native.Nat.{ℕ, zero, suc, _+_, _-_, _*_, _/_, _≤_, _<_, zero-le}
-use mathlib.Core.Path.{_≡_, refl, ap, _∙_}
+use mathlib.Core.Path.{_≡_, refl, ap, sym, _∙_}
 use mathlib.Core.Bool.{false, _||_}
 use mathlib.Core.List.{List, [], _∷_, _++_}
 use mathlib.Core.Logic.{⊎-elim}
@@ -11,10 +11,12 @@ use borrow.Author.Tests.{le-ltb}
 use lib.Dec.{ltb}
 use lib.ListN.{length, getD, take, drop, set, drop-of-length-le}
 use lib.Seq.{drop-cons}
+use Rattle.lists.specs.Limits.{memberLimit, amountLimit, allocationLimit}
 use Rattle.lists.specs.Sums.{total}
 use Rattle.lists.proofs.Fill.{fill-turn, fill-done}
 use Rattle.lists.proofs.Sums.{getD-le-total}
 use Rattle.split.specs.Split.{shareOf, splitOf, exceeds}
+use Rattle.split.specs.Parts.{Splits}
 
 -- one share ------------------------------------------------------------------
 
@@ -194,3 +196,11 @@ unfolding exceeds
 exceeds-none [] weights h = refl
 exceeds-none (s ∷ shares) [] h = rw (le-ltb 0 s (h 0), exceeds-none shares [] (λ k. h (suc k)))
 exceeds-none (s ∷ shares) (w ∷ weights) h = rw (le-ltb w s (h 0), exceeds-none shares weights (λ k. h (suc k)))
+
+-- what a split asks -----------------------------------------------------------
+
+-- a split over weights that were copied, where what it asks is known of those themselves
+pub splits-as : (sum whole : ℕ) (found weights shares : List ℕ) → found ≡ weights → sum ≤ allocationLimit → whole ≡ total weights → ((k : ℕ) → getD weights k 0 ≤ amountLimit)
+    → length weights ≡ memberLimit → length shares ≡ memberLimit → Splits sum whole found shares
+splits-as sum whole found weights shares e s w f l m =
+    rw e record { sum-fits = s; whole-is = w; weights-fit = f; few = omega arith; as-many = m ∙ sym l }

@@ -1,8 +1,8 @@
 -- `requirements::part` meets its contract.
 use mathlib.Core.Path.{refl, ap, _∙_}
 use Rattle.split.specs.Split.{splitOf}
-use Rattle.split.proofs.Laws.{total-none}
-use Rattle.requirements.proofs.Sharing.{no-shares, total-of-none-at, splits-as}
+use Rattle.split.proofs.Laws.{total-none, splits-as}
+use Rattle.requirements.proofs.Sharing.{no-shares, total-of-none-at}
 use native.Mathlib.Omega.{arith}
 use borrow.Author.Needs.{needs}
 use Rattle.requirements.proofs.part.Statement.{statement}

@@ -116,7 +116,8 @@ fn opened(block: Block, same: bool) -> Block
     no_block()
 }
 
-// Whether day and scenario of the first record, if there is one, are within their values. The later ones of its block are as good.
+// Whether day and scenario of the first record, if there is one, are within their values. Every later record is tried after the one before
+// it; the first has none.
 fn begins(sheet: &[u8]) -> bool
     ensures { λ r. ⌜ r ≡ (ltb (length (now (sheet .entry))) 16 || not (blockBeyond (now (sheet .entry)))) ⌝ }
 {

@@ -72,7 +72,7 @@ fn filled(s: &[u8]) -> bool
         & (le64(s, 8) <= AMOUNT_LIMIT)
 }
 
-// Whether none of 4, 5 and 6 refuses the record. Of a record of the block before, day and scenario were tried with the block's first.
+// Whether none of 4, 5 and 6 refuses the record. Where it is of the block of the record before, day and scenario were tried with that one.
 fn sound(same: bool, s: &[u8]) -> bool
     requires { ⌜ (16 ≤ length (now s)) × (same ≡ true → blockBeyond (now s) ≡ false) ⌝ }
     ensures { λ r. ⌜ r ≡ not (stressFaulty (now (s .entry))) ⌝ }

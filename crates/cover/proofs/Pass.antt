@@ -18,7 +18,7 @@ use Rattle.stress.specs.Stress.{weakAt, lossAt, beforeAll, oneBlock, stressNumb
 use Rattle.stress.specs.Parts.{blockBeyond}
 use Rattle.stress.specs.declared.Before.{Before}
 use Rattle.stress.specs.declared.Stress.the-variants.{Outside}
-use Rattle.stress.proofs.Laws.{LossInOrder, block-outside, stress-begins, stress-refused-here}
+use Rattle.stress.proofs.Laws.{LossInOrder, refused-outside, stress-begins, stress-refused-here}
 use Rattle.lists.specs.Highest.{highest, without}
 use Rattle.cover.specs.Cover.{StressLoss, lossRecord, recordsFrom, recordsOf, blocksFrom, blocksOf, memberLosses, flaggedLoss, flaggedSum, coverOf, weakOf}
 use Rattle.cover.specs.Parts.{blockOf, worseOf, Slight, Bounded, StressRead}
@@ -88,7 +88,7 @@ module _ (sheet : List ℕ) (begins : Bool) (is : begins ≡ (ltb (length sheet)
   first-refused h =
       let n = neither (ltb (length sheet) 16) (not (blockBeyond sheet)) (sym is ∙ not-true begins h) in
       let more : 0 < recordCount sheet = omega (arith, ltb-false (length sheet) 16 (n .0)) in
-      let here = stress-refused-here sheet (recordCount sheet) 0 beforeAll more Outside (block-outside beforeAll sheet (not-false (blockBeyond sheet) (n .1))) (omega arith) in
+      let here = stress-refused-here sheet (recordCount sheet) 0 beforeAll more Outside (refused-outside beforeAll sheet (not-false (blockBeyond sheet) (n .1))) (omega arith) in
       (omega arith, sym here ∙ stress-begins sheet)
 
 -- what a refused sheet reads as

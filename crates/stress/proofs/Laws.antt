@@ -19,6 +19,7 @@ use Rattle.stress.specs.Parts.{blockBeyond, Known}
 use Rattle.stress.specs.declared.Before.{Before}
 use Rattle.stress.specs.declared.Stress.{Stress}
 use Rattle.stress.specs.declared.Stress.the-variants.{Outside, Missing, Excessive, NotRising, SixthWeak, Loss}
+use Rattle.stress.proofs.Tests.{block-outside}
 use Rattle.stress.proofs.Stress as Stress'
 
 -- a record ---------------------------------------------------------------------
@@ -138,9 +139,9 @@ known-after before next s later loss weak o e =
       le-ltb scenarioLimit (next .scenario) (o .scenario-most),
     )
 
-pub block-outside : (before : Before) (s : List ℕ) → blockBeyond s ≡ true → stressOf before s ≡ Outside
-unfolding stressOf stressOutside
-block-outside before s e = sym (check-true _ _ _ (rw e refl) refl)
+pub refused-outside : (before : Before) (s : List ℕ) → blockBeyond s ≡ true → stressOf before s ≡ Outside
+unfolding stressOf
+refused-outside before s e = sym (check-true _ _ _ (block-outside s e) refl)
 
 pub stress-refuses : (e : Stress) → OneOf (0 ∷ 1 ∷ 2 ∷ 3 ∷ 4 ∷ []) (tagOf Stress'.the-type e) → 0 < stressNumber e
 stress-refuses Outside k = omega arith

@@ -1,7 +1,7 @@
 -- The tests that the code makes on numbers of several bytes are those that document 01 names byte by byte.
 use Prim.Native.Nat.{ℕ, _+_, _-_, _*_}
 use mathlib.Core.Path.{_≡_, refl, ap, sym, _∙_}
-use mathlib.Core.Bool.{Bool, true, false, _||_, _&&_, not, and-assoc, or-assoc, or-true, Bool·not-not}
+use mathlib.Core.Bool.{Bool, true, false, _||_, _&&_, not, and-assoc, or-true, Bool·not-not}
 use mathlib.Core.List.{List}
 use mathlib.Core.Logic.{⊎-elim}
 use native.Mathlib.Nat.{eq-zero-or-pos}
@@ -14,7 +14,7 @@ use Rattle.lists.proofs.Checks.{check-true, check-false, check-no, check-not-no
 use Rattle.lists.proofs.Tests.{positive-sum, positive-multiple, zero-test, not-or, not-both}
 use Rattle.sheets.specs.Bytes.{byte, le16, le32, absentAmount, beyond, nonzero}
 use Rattle.stress.specs.Stress.{dayAt, scenarioAt, stressedAt, weakAt, lossAt, sameBlock, flagsBefore, passed, stressOutside, stressRises, sixthWeak, stressOf}
-use Rattle.stress.specs.Parts.{le64, blockBeyond, figuresFaulty, stressFaulty, laterBlock}
+use Rattle.stress.specs.Parts.{le64, blockBeyond, stressFaulty, laterBlock}
 use Rattle.stress.specs.declared.Before.{Before}
 use Rattle.stress.specs.declared.Stress.{Stress}
 use Rattle.stress.specs.declared.Stress.the-variants.{Excessive, NotRising, SixthWeak, Loss}
@@ -69,21 +69,27 @@ pub outside-by-block : (s : List ℕ) (placed : Bool) → placed ≡ not (blockB
 unfolding stressOutside
 outside-by-block s placed e = rw (e, Bool·not-not (blockBeyond s))
 
-pub filled-by-number : (s : List ℕ)
-    → (not (beyond 1 memberLimit (stressedAt s)) && not (beyond 0 1 (weakAt s)) && eqb (le16 s 6) 0 && leb (le64 s 8) amountLimit) ≡ not (figuresFaulty s)
-unfolding figuresFaulty
-filled-by-number s = simp (zero-test, tail-by-number s, nonzero-le16, nonzero-le32, not-or, and-assoc)
+-- a record whose day and scenario are within their values, and one whose are tried
+pub filled-by-number : (s : List ℕ) → blockBeyond s ≡ false
+    → (not (beyond 1 memberLimit (stressedAt s)) && not (beyond 0 1 (weakAt s)) && eqb (le16 s 6) 0 && leb (le64 s 8) amountLimit) ≡ not (stressFaulty s)
+unfolding stressOutside stressFaulty
+filled-by-number s k = rw k (simp (zero-test, tail-by-number s, nonzero-le16, nonzero-le32, not-or, and-assoc))
 
-faulty-by-block : (s : List ℕ) → stressFaulty s ≡ (blockBeyond s || figuresFaulty s)
-unfolding stressOutside stressFaulty figuresFaulty
-faulty-by-block s = simp or-assoc
+pub block-outside : (s : List ℕ) → blockBeyond s ≡ true → stressOutside s ≡ true
+unfolding stressOutside
+block-outside s e = rw e refl
 
--- a record whose day and scenario are known to be within their values, and one whose are tried
-pub sound-within : (s : List ℕ) (filled : Bool) → filled ≡ not (figuresFaulty s) → blockBeyond s ≡ false → filled ≡ not (stressFaulty s)
-sound-within s filled e k = rw (faulty-by-block s, k) e
+block-faulty : (s : List ℕ) → blockBeyond s ≡ true → stressFaulty s ≡ true
+unfolding stressFaulty
+block-faulty s e = rw (block-outside s e) refl
 
-pub sound-tried : (s : List ℕ) (placed filled : Bool) → placed ≡ not (blockBeyond s) → filled ≡ not (figuresFaulty s) → (placed && filled) ≡ not (stressFaulty s)
-sound-tried s placed filled p e = rw (p, e, faulty-by-block s) (sym (not-or (blockBeyond s) (figuresFaulty s)))
+module _ (s : List ℕ) (placed filled : Bool) (p : placed ≡ not (blockBeyond s)) (f : blockBeyond s ≡ false → filled ≡ not (stressFaulty s)) where
+  tried-as : (b : Bool) → blockBeyond s ≡ b → (placed && filled) ≡ not (stressFaulty s)
+  tried-as true e = rw (p, block-faulty s e, e)
+  tried-as false e = rw (p, e) (f e)
+
+  pub sound-tried : (placed && filled) ≡ not (stressFaulty s)
+  sound-tried = tried-as (blockBeyond s) refl
 
 -- what the answer of `sound` says of them
 pub faulty-as : {t : Bool} (s : List ℕ) (sound : Bool) → sound ≡ not (stressFaulty s) → not sound ≡ t → stressFaulty s ≡ t

@@ -4,9 +4,9 @@ use mathlib.Core.Path.{_≡_}
 use mathlib.Core.Bool.{Bool, true, false, _||_, _&&_}
 use mathlib.Core.List.{List}
 use lib.Dec.{eqb, ltb}
-use Rattle.lists.specs.Limits.{memberLimit, amountLimit, dayLimit, scenarioLimit}
-use Rattle.sheets.specs.Bytes.{byte, le32, absentAmount, beyond, nonzero}
-use Rattle.stress.specs.Stress.{dayAt, scenarioAt, stressedAt, weakAt, lossAt, sameBlock, stressOutside}
+use Rattle.lists.specs.Limits.{amountLimit, dayLimit, scenarioLimit}
+use Rattle.sheets.specs.Bytes.{le32, absentAmount, beyond}
+use Rattle.stress.specs.Stress.{dayAt, scenarioAt, lossAt, sameBlock, stressOutside}
 use Rattle.stress.specs.declared.Before.{Before}
 
 -- a number of eight bytes, the lowest first
@@ -17,15 +17,7 @@ le64 s at = le32 s at + le32 s (at + 4) * 4_294_967_296
 abbrev pub blockBeyond : List ℕ → Bool
 blockBeyond s = beyond 1 dayLimit (dayAt s) || beyond 1 scenarioLimit (scenarioAt s)
 
--- whether one of 4, 5 and 6 refuses a record for anything else
-unfoldable pub figuresFaulty : List ℕ → Bool
-figuresFaulty s =
-    beyond 1 memberLimit (stressedAt s) || beyond 0 1 (weakAt s)
-    || nonzero (byte s 6) || nonzero (byte s 7)
-    || nonzero (byte s 12) || nonzero (byte s 13) || nonzero (byte s 14) || nonzero (byte s 15)
-    || absentAmount (lossAt s) || ltb amountLimit (lossAt s)
-
--- whether one of 4, 5 and 6 refuses a record at all
+-- whether one of 4, 5 and 6 refuses a record
 unfoldable pub stressFaulty : List ℕ → Bool
 stressFaulty s = stressOutside s || absentAmount (lossAt s) || ltb amountLimit (lossAt s)
 

@@ -19,7 +19,7 @@ ghost use lib.ListN.{length};
 ghost use Rattle.lists.specs.Limits.{weakLimit};
 ghost use Rattle.sheets.specs.Bytes.{absentAmount};
 ghost use Rattle.stress.specs.Stress.{lossAt, weakAt, oneBlock, sameBlock, flagsBefore, passed, stressOutside, stressRises, stressOf, stressNumber};
-ghost use Rattle.stress.specs.Parts.{le64, blockBeyond, figuresFaulty, stressFaulty, laterBlock, Known};
+ghost use Rattle.stress.specs.Parts.{le64, blockBeyond, stressFaulty, laterBlock, Known};
 
 const MEMBERS: u64 = lists::MEMBER_LIMIT as u64;
 
@@ -60,11 +60,11 @@ fn le64(s: &[u8], at: usize) -> u64
     le32(s, at) + le32(s, at + 4) * 4_294_967_296
 }
 
-// Whether nothing but day and scenario can be what 4, 5 and 6 refuse. Bytes 8 to 15 are one number here: it is the loss where the last four
-// are zero, and above every limit where they are not.
+// Whether none of 4, 5 and 6 refuses a record whose day and scenario are within their values. Bytes 8 to 15 are one number here: it is the
+// loss where the last four are zero, and above every limit where they are not.
 fn filled(s: &[u8]) -> bool
     requires { ⌜ 16 ≤ length (now s) ⌝ }
-    ensures { λ r. ⌜ r ≡ not (figuresFaulty (now (s .entry))) ⌝ }
+    ensures { λ r. ⌜ (blockBeyond (now (s .entry)) ≡ false → r ≡ not (stressFaulty (now (s .entry)))) ⌝ }
 {
     !beyond(1, MEMBERS, byte(s, 4))
         & !beyond(0, 1, byte(s, 5))

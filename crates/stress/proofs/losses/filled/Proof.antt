@@ -23,7 +23,7 @@ le64-requires : tie.Need-le64-requires
 le64-requires c κs = search needs
 
 returns : tie.Need-returns
-returns c =
+returns c k =
     let z = c .before in
     let w = z .before in
     let m = w .before .before in
@@ -35,7 +35,7 @@ returns c =
       z .le16 .ensures .0,
       c .le64 .ensures,
     )
-    (filled-by-number _)
+    (filled-by-number _ k)
 
 pub filled-spec : {M : Type 1} → statement M
 filled-spec =

@@ -1,6 +1,6 @@
 -- `stress::losses::sound` meets its contract.
 use borrow.Author.Needs.{needs}
-use Rattle.stress.proofs.Tests.{sound-within, sound-tried}
+use Rattle.stress.proofs.Tests.{sound-tried}
 use Rattle.stress.proofs.losses.sound.Statement.{statement}
 use Rattle.stress.proofs.losses.sound.Tie as tie
 
@@ -8,7 +8,7 @@ filled-requires : tie.Need-filled-requires
 filled-requires c κs = search needs
 
 returns : tie.Need-returns
-returns c = sound-within _ _ (c .filled .ensures) (c .before .before .before .pre .1 (c .before .if1 .taken))
+returns c = c .filled .ensures (c .before .before .before .pre .1 (c .before .if1 .taken))
 
 placed-requires : tie.Need-placed-requires
 placed-requires c κs = search needs

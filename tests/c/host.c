@@ -1,4 +1,4 @@
-/* A console host in C: the review trigger on plain numbers, register sheets as bytes. Exits 0 where all is as document 01 says. */
+/* A console host in C: the review trigger on plain numbers, register sheets as bytes, pages for the wall. Exits 0 where all is as the papers say. */
 #include "host.h"
 #include <stdio.h>
 #include <string.h>
@@ -96,10 +96,87 @@ static void records(void) {
     same("the first record decides", register_refusal(s, 48, 0), 6);
 }
 
+#define PRINTED 26000000000u
+#define LENT 400
+#define UNWRITTEN 0xA5
+
+/* A page lent in the front of a buffer, with `length` bytes said to be there: the answer, and what stands in all of the buffer then. */
+static uint8_t lent[LENT];
+static unsigned printed(default_answer answer, size_t length) {
+    memset(lent, UNWRITTEN, LENT);
+    return print_page(answer, lent, length);
+}
+
+/* Whether every byte from a place on is as it was. */
+static unsigned untouched(size_t from) {
+    for (; from < LENT; from++)
+        if (lent[from] != UNWRITTEN) return 0;
+    return 1;
+}
+
+/* An amount that is looked for in each of the seven places. */
+static default_answer with(unsigned place, uint64_t amount) {
+    uint64_t v[7] = {0};
+    v[place] = amount;
+    return (default_answer){v[0], v[1], v[2], v[3], v[4], v[5], v[6]};
+}
+
+/* Document 01's first default, then the amounts at which the digits or the commas get one more. */
+static void pages(void) {
+    static const char first[] =
+        "LAYER                        Rs THOUSAND\n"
+        "MARGIN                            50,000\n"
+        "OWN FUND                          20,000\n"
+        "TRANCHE 1                         13,200\n"
+        "MEMBERS                           16,800\n"
+        "TRANCHE 2                              0\n"
+        "CALLS                                  0\n"
+        "SHORT                                  0\n";
+    static const char steps[] =
+        "LAYER                        Rs THOUSAND\n"
+        "MARGIN                               999\n"
+        "OWN FUND                           1,000\n"
+        "TRANCHE 1                         99,999\n"
+        "MEMBERS                         1,00,000\n"
+        "TRANCHE 2                       2,55,000\n"
+        "CALLS                    25,99,99,99,999\n"
+        "SHORT                    26,00,00,00,000\n";
+    const default_answer one = {50000, 20000, 13200, 16800, 0, 0, 0};
+    const default_answer two = {999, 1000, 99999, 100000, 255000, PRINTED - 1, PRINTED};
+    const size_t lengths[] = {PAGE_BYTES, PAGE_BYTES + 1, LENT};
+    for (size_t i = 0; i < sizeof lengths / sizeof *lengths; i++) {
+        same("the first default", printed(one, lengths[i]), 0);
+        same("its page", memcmp(lent, first, PAGE_BYTES), 0);
+        same("bytes after its page", untouched(PAGE_BYTES), 1);
+        same("other amounts", printed(two, lengths[i]), 0);
+        same("their page", memcmp(lent, steps, PAGE_BYTES), 0);
+        same("bytes after their page", untouched(PAGE_BYTES), 1);
+    }
+}
+
+static void refused_pages(void) {
+    const size_t shorter[] = {0, 1, 40, 41, 287, PAGE_BYTES - 1};
+    for (size_t i = 0; i < sizeof shorter / sizeof *shorter; i++) {
+        same("a page that is too short", printed(with(0, 5), shorter[i]), 20);
+        same("and is not written", untouched(0), 1);
+    }
+    same("a null page", print_page(with(0, 5), NULL, 0), 20);
+    for (unsigned place = 0; place < 7; place++) {
+        const uint64_t above[] = {PRINTED + 1, UINT64_MAX};
+        same("the largest amount", printed(with(place, PRINTED), PAGE_BYTES), 0);
+        for (size_t i = 0; i < 2; i++) {
+            same("an amount above the limit", printed(with(place, above[i]), LENT), 20);
+            same("and nothing is written", untouched(0), 1);
+        }
+    }
+}
+
 int main(void) {
     review();
     size();
     records();
-    if (!wrong) puts("host: all as document 01 says");
+    pages();
+    refused_pages();
+    if (!wrong) puts("host: all as the papers say");
     return wrong;
 }

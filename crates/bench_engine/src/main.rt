@@ -1,5 +1,6 @@
 // Runs one case of the benchmarks so many times and prints a checksum of the answers, which must equal the Rust implementation's.
-// The cases: distinct, tied and calls REPS, and sizing REPS STRESS SHARES.
+// The cases: distinct, tied, calls and page REPS, and sizing REPS STRESS SHARES.
+mod pages;
 mod sheets_read;
 mod sizings;
 
@@ -10,7 +11,7 @@ use numbers::Number;
 fn usage() {
     io::write_all(
         STDERR_FILENO,
-        b"usage: bench_engine distinct|tied|calls REPS\n       bench_engine sizing REPS STRESS SHARES\n",
+        b"usage: bench_engine distinct|tied|calls|page REPS\n       bench_engine sizing REPS STRESS SHARES\n",
     );
 }
 
@@ -27,7 +28,7 @@ fn run_sizing(turns: u64) {
     say(sizings::run(turns));
 }
 
-fn run_default(case: &[u8], turns: u64) {
+fn run_plain(case: &[u8], turns: u64) {
     if os::arg_count() != 3 {
         usage();
         return;
@@ -38,6 +39,8 @@ fn run_default(case: &[u8], turns: u64) {
         say(bench_defaults::tied(turns));
     } else if words::same(case, b"calls") {
         say(bench_defaults::calls(turns));
+    } else if words::same(case, b"page") {
+        say(pages::run(turns));
     } else {
         usage();
     }
@@ -47,7 +50,7 @@ fn run(case: &[u8], turns: u64) {
     if words::same(case, b"sizing") {
         run_sizing(turns);
     } else {
-        run_default(case, turns);
+        run_plain(case, turns);
     }
 }
 

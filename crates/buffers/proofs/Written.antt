@@ -1,13 +1,13 @@
 -- Laws of bytes written into a buffer.
-use Prim.Native.Nat.{ℕ, suc, _+_, _-_, _/_, _%_, _≤_, _<_}
-use mathlib.Core.Path.{_≡_, sym, ap, _∙_}
+use Prim.Native.Nat.{ℕ, zero, suc, _+_, _-_, _/_, _%_, _≤_, _<_}
+use mathlib.Core.Path.{_≡_, refl, sym, ap, _∙_}
 use mathlib.Core.List.{List, [], _∷_, _++_, append-assoc, append-nil}
 use native.Mathlib.Numerals.{add-one}
-use native.Mathlib.Nat.{add-assoc, add-zero}
+use native.Mathlib.Nat.{add-assoc, add-zero, zero-add, suc-add}
 use native.Mathlib.Omega.{arith}
 use lib.ListN.{length, getD, take, drop, set, length-append, length-take, length-drop, take-append-drop}
-use lib.Seq.{length-take-le, take-suc, append-snoc, set-split, take-at, drop-at, drop-drop}
-use Rattle.buffers.specs.Buffer.{written, le}
+use lib.Seq.{length-take-le, take-suc, append-snoc, set-split, take-at, drop-at, drop-drop, take-append-le, take-take}
+use Rattle.buffers.specs.Buffer.{written, spaces, le}
 
 -- one byte
 pub written-one : (out : List ℕ) (at b : ℕ) → at < length out → set out at b ≡ written out at (b ∷ [])
@@ -41,6 +41,14 @@ written-none out at = rw (append-nil, add-zero) (take-append-drop at out)
 pub written-cons : (out s : List ℕ) (at b : ℕ) → at < length out → written (set out at b) (at + 1) s ≡ written out at (b ∷ s)
 written-cons out s at b h = rw (written-one out at b h) (written-more out at (b ∷ []) (omega arith) s)
 
+-- a text in front of one that was written
+pub written-before : (out s t : List ℕ) (at : ℕ) → at + length s + length t ≤ length out → written (written out (at + length s) t) at s ≡ written out at (s ++ t)
+unfolding written
+written-before out s t at h =
+    let n : length (take (at + length s) out) ≡ at + length s = length-take-le (at + length s) out (omega arith) in
+    rw (append-assoc (take (at + length s) out) t (drop (at + length s + length t) out), take-append-le at (take (at + length s) out) (t ++ drop (at + length s + length t) out) (omega arith), take-take at (at + length s) out (omega arith), drop-at (take (at + length s) out) (t ++ drop (at + length s + length t) out) (at + length s) n)
+    (simp (length-append, append-assoc, add-assoc))
+
 -- a text written byte by byte
 pub text-on : (out o text : List ℕ) (at i : ℕ) → i < length text → at + length text ≤ length out → o ≡ written out at (take i text) → set o (at + i) (getD text i 0) ≡ written out at (take (i + 1) text)
 text-on out o text at i h k e =
@@ -59,3 +67,29 @@ pub bytes-on : (out : List ℕ) (at n v : ℕ) → (n ≡ 0 → ⊥) → at < le
 bytes-on out at n v h k =
     let e : n ≡ suc (n - 1) = omega arith in
     written-cons out (le (n - 1) (v / 256)) at (v % 256) k ∙ ap (λ (m : ℕ). written out at (le m v)) (sym e)
+
+-- spaces written one by one
+pub spaces-length : (n : ℕ) → length (spaces n) ≡ n
+spaces-length zero = refl
+spaces-length (suc n) = ap suc (spaces-length n)
+
+spaces-more : (n : ℕ) → spaces n ++ (32 ∷ []) ≡ spaces (suc n)
+spaces-more zero = refl
+spaces-more (suc n) = ap (λ (s : List ℕ). 32 ∷ s) (spaces-more n)
+
+pub spaces-add : (m n : ℕ) → spaces (m + n) ≡ spaces m ++ spaces n
+spaces-add zero n = ap spaces (zero-add n)
+spaces-add (suc m) n = ap spaces (suc-add m n) ∙ ap (λ (s : List ℕ). 32 ∷ s) (spaces-add m n)
+
+pub spaces-none : (out : List ℕ) (from : ℕ) → written out from (spaces (from - from)) ≡ out
+spaces-none out from =
+    let z : from - from ≡ 0 = omega arith in
+    rw z (written-none out from)
+
+pub space-on : (out o : List ℕ) (from i : ℕ) → from ≤ i → i < length out → o ≡ written out from (spaces (i - from)) → set o i 32 ≡ written out from (spaces (i + 1 - from))
+space-on out o from i h k e =
+    let l = spaces-length (i - from) in
+    let n : length o ≡ length out = ap length e ∙ written-length out from (spaces (i - from)) (omega arith) in
+    let m : suc (i - from) ≡ i + 1 - from = omega arith in
+    written-then out from i (spaces (i - from)) (32 ∷ []) e (written-one o i 32 (omega arith)) (omega arith) (omega arith)
+    ∙ ap (written out from) (spaces-more (i - from) ∙ ap spaces m)

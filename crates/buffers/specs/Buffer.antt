@@ -9,6 +9,11 @@ use Rattle.lists.specs.Checks.{check}
 unfoldable pub written : List ℕ → ℕ → List ℕ → List ℕ
 written out at s = take at out ++ s ++ drop (at + length s) out
 
+-- n spaces
+abbrev pub spaces : ℕ → List ℕ
+spaces zero = []
+spaces (suc n) = 32 ∷ spaces n
+
 -- the lowest n bytes of v, the lowest first
 abbrev pub le : ℕ → ℕ → List ℕ
 le zero v = []

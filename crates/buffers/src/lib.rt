@@ -1,8 +1,8 @@
 // Bytes written into a lent buffer.
 ghost use mathlib.Core.Path.{_≡_};
-ghost use Prim.Native.Nat.{_+_, _≤_};
+ghost use Prim.Native.Nat.{_+_, _-_, _≤_};
 ghost use lib.ListN.{length};
-ghost use Rattle.buffers.specs.Buffer.{written, le, grownOf, keptOf};
+ghost use Rattle.buffers.specs.Buffer.{written, spaces, le, grownOf, keptOf};
 
 // The lowest `count` bytes of v at the place `at` of the buffer. Answers the place after them.
 pub fn put_bytes(out: &mut [u8], at: usize, count: usize, v: u64) -> usize
@@ -27,6 +27,18 @@ pub fn put_text(out: &mut [u8], at: usize, text: &[u8]) -> usize
         i += 1;
     }
     at + text.len()
+}
+
+// Spaces from one place of the buffer up to another.
+pub fn put_spaces(out: &mut [u8], from: usize, to: usize)
+    requires { ⌜ (from ≤ to) × (to ≤ length (now out)) ⌝ }
+    ensures { λ _. ⌜ now (out .exit) ≡ written (now (out .entry)) from (spaces (to - from)) ⌝ }
+{
+    let mut i = from;
+    while i < to {
+        out[i] = 32;
+        i += 1;
+    }
 }
 
 // A piece of a line put behind the `len` bytes that are in the buffer. Answers how long the line is then. One that has no room is longer than

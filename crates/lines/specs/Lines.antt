@@ -32,7 +32,7 @@ defaultRanks ws = check (allGood unnamed (restOf (restOf ws))) (ranksIn missingR
 unfoldable pub pairLine : (ℕ → ℕ → DrillCall) → List (List ℕ) → Line
 pairLine make ws = check (noWord (restOf (restOf ws))) (numbersOf make ws) Line.Unreadable
 
--- `close`, `register`
+-- `close`, `register`, `page`
 unfoldable pub alone : Line → List (List ℕ) → Line
 alone line ws = check (noWord ws) line Line.Unreadable
 
@@ -43,7 +43,8 @@ otherLine word ws =
     (check (sameBytes word (ascii "replenishment")) (pairLine DrillCall.Replenishment ws)
     (check (sameBytes word (ascii "close")) (alone (Line.Call DrillCall.Close) ws)
     (check (sameBytes word (ascii "register")) (alone Line.Register ws)
-    Line.Unreadable)))
+    (check (sameBytes word (ascii "page")) (alone Line.Page ws)
+    Line.Unreadable))))
 
 -- "a line with no word is skipped"
 unfoldable pub lineIn : List (List ℕ) → Line

@@ -19,6 +19,7 @@ pub enum Line {
     Blank,
     Unreadable,
     Register,
+    Page,
     Call(DrillCall),
 }
 
@@ -151,6 +152,9 @@ fn other_line(line: &[u8], word: &[u8], from: usize) -> Line
     }
     if same(word, b"register") {
         return alone(Line::Register, line, from);
+    }
+    if same(word, b"page") {
+        return alone(Line::Page, line, from);
     }
     Line::Unreadable
 }

@@ -1,14 +1,14 @@
--- Tests joined, a fact by cases, and a list by its next number.
+-- Tests joined, a fact by cases, a list by its next number, and two lists cut alike.
 use Prim.Native.Nat.{ℕ, _+_, _≤_, _<_}
-use mathlib.Core.Path.{_≡_, refl}
+use mathlib.Core.Path.{_≡_, refl, sym, ap, _∙_}
 use mathlib.Core.Bool.{Bool, true, false, not, _&&_, _||_}
-use mathlib.Core.List.{List, _∷_}
+use mathlib.Core.List.{List, _∷_, _++_}
 use native.Mathlib.Numerals.{add-one}
 use native.Mathlib.Omega.{arith}
 use borrow.Author.Tests.{leb-true, leb-false}
 use lib.Dec.{leb}
-use lib.ListN.{length, getD, drop}
-use lib.Seq.{drop-cons}
+use lib.ListN.{length, getD, take, drop, length-append}
+use lib.Seq.{drop-cons, take-at, drop-at}
 
 pub and-false : (a : Bool) → (a && false) ≡ false
 and-false true = refl
@@ -32,3 +32,11 @@ by-le {P} m n f g = go (leb m n) refl
 -- what is left from a place on, by its first number
 pub drop-next : (s : List ℕ) (i : ℕ) → i < length s → drop i s ≡ getD s i 0 ∷ drop (i + 1) s
 drop-next s i h = rw (add-one, drop-cons s i 0)
+
+-- two lists cut into a front and a back, the backs as long as each other: where the wholes are equal, fronts and backs are
+pub append-apart : (xs ys vs ws : List ℕ) → length ys ≡ length ws → xs ++ ys ≡ vs ++ ws → (xs ≡ vs) × (ys ≡ ws)
+append-apart xs ys vs ws l e =
+    let n : length xs ≡ length vs = omega (arith, ap length e, length-append xs ys, length-append vs ws) in (
+      sym (take-at xs ys (length vs) n) ∙ ap (take (length vs)) e ∙ take-at vs ws (length vs) refl,
+      sym (drop-at xs ys (length vs) n) ∙ ap (drop (length vs)) e ∙ drop-at vs ws (length vs) refl,
+    )

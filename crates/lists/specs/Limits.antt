@@ -42,3 +42,7 @@ scenarioLimit = 64
 -- the weak flags that a block may have: the sixth is refused
 abbrev pub weakLimit : ℕ
 weakLimit = 5
+
+-- document 02, request 1: "an amount above 26,000,000,000" is not printed
+abbrev pub printedLimit : ℕ
+printedLimit = 26_000_000_000

@@ -44,6 +44,15 @@ digits-length (suc f) n =
     (λ e. omega arith)
     (λ e. simp length-append (omega (arith, digits-length f (n / 10))))
 
+-- a number below 10 ^ (k + 1) has at most k + 1 digits
+few-digits : (k f n : ℕ) → n < 10 ^ suc k → length (digitsOf f n) ≤ suc k
+few-digits k zero n h = omega arith
+few-digits zero (suc f) n h = rw (small f n h) (omega arith)
+few-digits (suc k) (suc f) n h =
+    check-by (λ (s : List ℕ). length s ≤ suc (suc k)) (ltb n 10) _ _
+    (λ e. omega arith)
+    (λ e. simp length-append (omega (arith, few-digits k f (n / 10) (tenth (suc k) n h))))
+
 -- the value of digits behind others
 value-append : (v : ℕ) (s t : List ℕ) → valueFrom v (s ++ t) ≡ valueFrom (valueFrom v s) t
 value-append v [] t = refl
@@ -91,6 +100,14 @@ decimal-large n h k = large 19 n h ∙ ap (λ (s : List ℕ). s ++ ((48 + n % 10
 pub decimal-length : (n : ℕ) → length (decimalOf n) ≤ 20
 unfolding decimalOf
 decimal-length n = digits-length 20 n
+
+pub decimal-few : (k n : ℕ) → n < 10 ^ suc k → length (decimalOf n) ≤ suc k
+unfolding decimalOf
+decimal-few k n h = few-digits k 20 n h
+
+pub decimal-all : (n : ℕ) → allDigits (decimalOf n) ≡ true
+unfolding decimalOf
+decimal-all n = digits-all 20 n
 
 read-as : (s : List ℕ) (n : ℕ) → isEmpty s ≡ false → allDigits s ≡ true → valueFrom 0 s ≡ n → n < 2 ^ 64 → readOf s ≡ Value n
 unfolding readOf check

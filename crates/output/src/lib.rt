@@ -1,6 +1,7 @@
 // The answers of a drill, kept one behind the other and written to standard output.
 use input::Progress;
 use libc::STDOUT_FILENO;
+use print_page::Latest;
 use waterfall::Register;
 use waterfall::Reply;
 ghost use mathlib.Core.Path.{_≡_};
@@ -8,6 +9,8 @@ ghost use Prim.Native.Nat.{_+_, _≤_};
 ghost use lib.ListN.{length};
 ghost use Rattle.print_answers.specs.Texts.{unreadableText, replyText};
 ghost use Rattle.print_register.specs.Texts.{registerText};
+ghost use Rattle.print_page.specs.Texts.{pageText};
+ghost use Rattle.print_page.specs.Parts.{Printable};
 
 // Where no more of the answers are kept than this, there is room for any other.
 const KEPT: usize = 49152;
@@ -55,6 +58,13 @@ pub fn put_register(out: &mut [u8], at: usize, register: Register) -> usize
     ensures { λ r. ⌜ r ≡ at + length (registerText register) ⌝ }
 {
     at + print_register::put_register(&mut out[at..], register)
+}
+
+pub fn put_page(out: &mut [u8], at: usize, latest: Latest) -> usize
+    requires { ⌜ (at ≤ 49152) × (length (now out) ≡ 65536) × Printable latest ⌝ }
+    ensures { λ r. ⌜ r ≡ at + length (pageText latest) ⌝ }
+{
+    at + print_page::put_page(&mut out[at..], latest)
 }
 
 pub fn put_reply(out: &mut [u8], at: usize, reply: Reply, slip: &[u64]) -> usize

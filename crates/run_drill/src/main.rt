@@ -6,9 +6,12 @@ use libc::STDERR_FILENO;
 use lines::Line;
 use numbers::Number;
 use output::make_room;
+use output::put_page;
 use output::put_register;
 use output::put_reply;
 use output::put_unreadable;
+use print_page::Latest;
+use print_page::latest_of;
 use waterfall::Register;
 ghost use mathlib.Core.Path.{_≡_};
 ghost use lib.ListN.{length};
@@ -28,6 +31,7 @@ fn drill(
     requires { ⌜ (length (now ranks) ≡ 64) × (length (now slip) ≡ 128) × (length (now out) ≡ 65536) ⌝ }
 {
     let mut register = first;
+    let mut latest = Latest::NoDefault;
     let mut p = Progress {
         from: 0,
         have: 0,
@@ -52,11 +56,13 @@ fn drill(
             Line::Blank => at,
             Line::Unreadable => put_unreadable(out, at, number),
             Line::Register => put_register(out, at, register),
+            Line::Page => put_page(out, at, latest),
             Line::Call(call) => {
                 let done = drill::apply(register, call, ranks, slip);
                 let reply = done.reply;
                 let after = done.register;
                 register = after;
+                latest = latest_of(latest, reply);
                 put_reply(out, at, reply, slip)
             }
         };

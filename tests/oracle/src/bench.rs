@@ -1,18 +1,20 @@
 //! What the benchmarks repeat. Each case gives a checksum of its answers, which the engine's must equal.
 
 use crate::bench_files::{register_sheet, OWN};
-use crate::engine::{size, DefaultAnswer, Register, DEFAULT_SLIP, MEMBERS};
+use crate::engine::{print_page, size, DefaultAnswer, Register, DEFAULT_SLIP, MEMBERS, PAGE_BYTES};
 use std::ffi::OsString;
 use std::fs;
 use std::hint::black_box;
 use std::io;
 
 /// The cases by name; `sizing` reads its two sheets from files.
-pub const CASES: &str = "distinct, tied, calls, sizing STRESS SHARES";
+pub const CASES: &str = "distinct, tied, calls, page, sizing STRESS SHARES";
 
 const DEFAULTER: u64 = 17;
 const PREVAILING: u64 = 70_000_000;
 const AVAILABLE: u64 = 5_000_000;
+/// Where the amounts of a page end.
+const LAST_DIGITS: [usize; 7] = [80, 121, 162, 203, 244, 285, 326];
 
 /// Runs one case so many times and gives the checksum; none where there is no such case.
 pub fn bench(case: &str, repetitions: u64, files: &[OsString]) -> io::Result<Option<u64>> {
@@ -20,6 +22,7 @@ pub fn bench(case: &str, repetitions: u64, files: &[OsString]) -> io::Result<Opt
         ("distinct" | "tied" | "calls", []) => {
             Some(repeat_default(&DefaultCase::named(case), repetitions))
         }
+        ("page", []) => Some(repeat_page(repetitions)),
         ("sizing", [stress, shares]) => {
             let (stress, shares) = (fs::read(stress)?, fs::read(shares)?);
             Some(repeat_sizing(&stress, &shares, repetitions))
@@ -88,6 +91,29 @@ fn repeat_default(case: &DefaultCase, repetitions: u64) -> u64 {
     })
 }
 
+/// The answer that a turn prints; it too rises a little with the turn.
+fn page_answer(turn: u64) -> DefaultAnswer {
+    let layers = [50_629, 1_004_403, 600_001, 62_756_540, 400_002, 17_601_059];
+    DefaultAnswer {
+        fallen: 0,
+        layers: layers.map(|layer| layer + turn % 8),
+        short: 25_518_000_000 + turn % 8,
+    }
+}
+
+/// One page is lent to every turn; the last digit of each amount stands for it.
+fn repeat_page(repetitions: u64) -> u64 {
+    let mut page = [0; PAGE_BYTES];
+    (0..repetitions).fold(0, |sum, turn| {
+        let answer = page_answer(turn);
+        print_page(black_box(&answer), black_box(&mut page)).expect("a good answer");
+        let page = black_box(&page);
+        LAST_DIGITS
+            .iter()
+            .fold(sum, |sum, &at| fold(sum, page[at] as u64))
+    })
+}
+
 fn repeat_sizing(stress: &[u8], shares: &[u8], repetitions: u64) -> u64 {
     let mut slip = [0; MEMBERS];
     (0..repetitions).fold(0, |sum, turn| {
@@ -126,5 +152,14 @@ mod tests {
             assert_eq!(layers(case), [true, true, true, true, false, false]);
         }
         assert_eq!(layers("calls"), [true; 6]);
+    }
+
+    #[test]
+    fn last_digits_of_the_page() {
+        let digits = |sum, text: &str| text.bytes().fold(sum, |sum, digit| fold(sum, digit as u64));
+        assert_eq!(repeat_page(0), 0);
+        assert_eq!(repeat_page(1), digits(0, "9310290"));
+        assert_eq!(repeat_page(2), digits(digits(0, "9310290"), "0421301"));
+        assert_eq!(repeat_page(9), digits(repeat_page(8), "9310290"));
     }
 }

@@ -4,7 +4,7 @@ use crate::ledger::Tally;
 
 #[derive(Clone, Default)]
 pub struct Coverage {
-    refusals: [u64; 20],
+    refusals: [u64; 21],
     layers: [u64; 6],
     fallen: u64,
     shortfalls: u64,
@@ -12,6 +12,8 @@ pub struct Coverage {
     openings: u64,
     sizings: u64,
     unreadable: u64,
+    pages: u64,
+    no_pages: u64,
     tally: Tally,
 }
 
@@ -26,6 +28,8 @@ impl Coverage {
                 (Some("accepted"), Some("fallen")) => self.add_default(line, &mut reached),
                 (Some("accepted"), Some("C")) => self.sizings += 1,
                 (Some("unreadable"), _) => self.unreadable += 1,
+                (Some("LAYER"), _) => self.pages += 1,
+                (Some("no"), Some("page")) => self.no_pages += 1,
                 _ => self.openings += (line == "opening accepted") as u64,
             }
         }
@@ -49,6 +53,8 @@ impl Coverage {
         self.openings += other.openings;
         self.sizings += other.sizings;
         self.unreadable += other.unreadable;
+        self.pages += other.pages;
+        self.no_pages += other.no_pages;
         self.add_tally(other.tally);
     }
 
@@ -70,7 +76,7 @@ impl Coverage {
 
     pub fn print(&self) {
         println!("refusal  times");
-        for number in 1..=19 {
+        for number in 1..=20 {
             println!("{number:>7}  {}{}", self.refusals[number], remark(number));
         }
         println!("layer    accepted defaults that drew on it");
@@ -86,6 +92,7 @@ impl Coverage {
             self.openings, t.defaults, t.payments, t.replenishments, t.closes, self.sizings
         );
         println!("unreadable lines: {}", self.unreadable);
+        println!("pages: {}, no page: {}", self.pages, self.no_pages);
     }
 }
 
@@ -94,6 +101,7 @@ fn remark(number: usize) -> &'static str {
     match number {
         3 | 14 => "  (the programs always hand whole slips and ranks)",
         19 => "  (no part split is above its total)",
+        20 => "  (the programs always hand a whole page, and no drill's amount is above its limit)",
         _ => "",
     }
 }
@@ -104,24 +112,52 @@ mod tests {
     use crate::generate::{drill, sizing};
     use crate::text::{run_drill, run_sizing};
 
+    fn drilled(seed: u64) -> String {
+        let case = drill(seed);
+        let mut out = Vec::new();
+        run_drill(&case.sheet, case.own, &case.calls[..], &mut out).unwrap();
+        String::from_utf8(out).unwrap()
+    }
+
     #[test]
     fn the_generator_reaches_all_that_can_be_printed() {
         let mut coverage = Coverage::default();
         for seed in 0..1_000 {
-            let case = drill(seed);
-            let mut out = Vec::new();
-            run_drill(&case.sheet, case.own, &case.calls[..], &mut out).unwrap();
-            coverage.add_output(&String::from_utf8(out).unwrap());
+            coverage.add_output(&drilled(seed));
             let case = sizing(seed);
             let out = run_sizing(&case.stress, &case.shares, case.prevailing, case.available);
             coverage.add_output(&String::from_utf8(out).unwrap());
         }
-        for number in 1..=19 {
+        for number in 1..=20 {
             let reached = coverage.refusals[number] > 0;
             assert_eq!(reached, remark(number).is_empty(), "refusal {number}");
         }
         assert!(coverage.layers.iter().all(|&times| times > 100));
         assert!(coverage.shortfalls > 100 && coverage.fallen > 100);
         assert!(coverage.all_layers > 100 && coverage.sizings > 100);
+        assert!(coverage.pages > 100 && coverage.no_pages > 100);
+    }
+
+    /// Before any default, straight after one and after refused ones, twice, and later.
+    #[test]
+    fn the_generator_asks_for_pages_everywhere() {
+        let all: String = (0..1_000).map(drilled).collect();
+        let places = [
+            "opening accepted\nno page\n",
+            "opening refused 1\nno page\n",
+            "refused 15\nno page\n",
+            "no page\nno page\n",
+            " short 0\nLAYER",
+            " called 0\nLAYER",
+            "refused 11\nLAYER",
+            "refused 12\nLAYER",
+            "refused 13\nLAYER",
+            "refused 15\nLAYER",
+            "SHORT                                  0\nLAYER",
+            "\naccepted\nLAYER",
+        ];
+        for place in places {
+            assert!(all.contains(place), "{place}");
+        }
     }
 }

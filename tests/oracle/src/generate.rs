@@ -12,7 +12,7 @@ pub use sizing::sizing;
 
 /// A register sheet, own contribution and the drill's lines.
 ///
-/// A `register` line follows every default and ends the drill.
+/// A `register` line follows every default and the last call, with nothing but pages between.
 pub struct DrillCase {
     pub sheet: Vec<u8>,
     pub own: u64,

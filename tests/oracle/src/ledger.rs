@@ -1,8 +1,12 @@
 //! Counts statement 3 on a drill, from what was handed in and what was printed.
 //!
 //! Nothing here asks the engine: sums come from the calls and the printed answers,
-//! and what is held or outstanding from the printed registers.
+//! and what is held or outstanding from the printed registers. A printed page is held to the
+//! printed answer of the latest accepted default.
 
+mod page;
+
+use self::page::read_page;
 use crate::engine::{Call, MEMBERS, RECORD};
 use crate::generate::DrillCase;
 use crate::text::{read_line, Lines, Reading};
@@ -58,6 +62,8 @@ struct Ledger {
     charges: Sum,
     shortfalls: Sum,
     awaiting: Option<Accepted>,
+    /// The layers and the shortfall of the latest accepted default.
+    latest: Option<[Sum; 7]>,
     unseen: bool,
     tally: Tally,
 }
@@ -81,29 +87,45 @@ pub fn count(case: &DrillCase, printed: &str) -> Counted<Tally> {
     Ok(ledger.tally)
 }
 
-/// Refused calls and unreadable lines between two printed registers alter nothing.
+/// Refused calls and unreadable lines alter no printed register, and only defaults the page.
 pub fn unaltered(printed: &str) -> Counted {
-    let mut last: Option<Vec<&str>> = None;
+    let (mut register, mut page) = (None, None);
     let mut lines = printed.lines().peekable();
     while let Some(line) = lines.next() {
         if line.starts_with("accepted") {
-            last = None;
+            register = None;
         }
-        if !line.starts_with("register ") {
-            continue;
+        if line.starts_with("accepted fallen ") {
+            page = None;
         }
-        let mut shown = vec![line];
-        while let Some(row) = lines.next_if(|row| row.starts_with("  ")) {
-            shown.push(row);
+        if line.starts_with("register ") {
+            let mut shown = vec![line];
+            while let Some(row) = lines.next_if(|row| row.starts_with("  ")) {
+                shown.push(row);
+            }
+            hold(
+                &mut register,
+                shown,
+                "the register altered without an accepted call",
+            )?;
+        } else if line == "no page" || line.starts_with("LAYER ") {
+            let rows = if line == "no page" { 0 } else { 7 };
+            let shown = lines.by_ref().take(rows).collect();
+            hold(
+                &mut page,
+                shown,
+                "the page altered without an accepted default",
+            )?;
         }
-        if let Some(last) = &last {
-            ensure(*last == shown, || {
-                "the register altered without an accepted call".into()
-            })?;
-        }
-        last = Some(shown);
     }
     Ok(())
+}
+
+/// Holds what is shown to what was shown last, where nothing may have altered it since.
+fn hold<'a>(last: &mut Option<Vec<&'a str>>, shown: Vec<&'a str>, why: &str) -> Counted {
+    let same = last.as_ref().is_none_or(|last| *last == shown);
+    *last = Some(shown);
+    ensure(same, || why.into())
 }
 
 fn ensure(holds: bool, why: impl FnOnce() -> String) -> Counted {
@@ -183,6 +205,7 @@ impl Ledger {
             Reading::Nothing => return Ok(()),
             Reading::Unreadable => return printed.take::<1>("unreadable line #").map(drop),
             Reading::Register => return self.show(printed),
+            Reading::Page => return self.show_page(printed),
             Reading::Call(call) => call,
         };
         if printed.take_if::<1>("refused #").is_some() {
@@ -231,7 +254,9 @@ impl Ledger {
         printed: &mut Printed,
     ) -> Counted {
         let pattern = "accepted fallen # layers # # # # # # short #";
-        let [fallen, layers @ .., short] = printed.take::<8>(pattern)?;
+        let [fallen, figures @ ..] = printed.take::<8>(pattern)?;
+        self.latest = Some(figures);
+        let [layers @ .., short] = figures;
         let layers: [Sum; 6] = layers;
         let defaulter = self.account(member)?;
         defaulter.live = false;
@@ -284,6 +309,17 @@ impl Ledger {
             format!("slips add to {charges} charged and {calls} called")
         })?;
         Ok(charged)
+    }
+
+    /// Reads a printed page and holds it to the latest accepted default.
+    fn show_page(&self, printed: &mut Printed) -> Counted {
+        let Some(latest) = self.latest else {
+            return printed.take::<0>("no page").map(drop);
+        };
+        let shown = read_page(&mut printed.0)?;
+        ensure(shown == latest, || {
+            format!("the page shows {shown:?}, and the latest default {latest:?}")
+        })
     }
 
     /// Reads a printed register and holds every sum against it.
@@ -407,8 +443,10 @@ impl Account {
 #[cfg(test)]
 mod tests {
     use super::*;
+    use crate::engine::PAGE_BYTES;
     use crate::generate::{drill, example_register};
     use crate::text::run_drill;
+    use std::ops::Range;
 
     fn printed(case: &DrillCase) -> String {
         let mut out = Vec::new();
@@ -417,9 +455,10 @@ mod tests {
     }
 
     fn example() -> DrillCase {
-        let calls = "default 1 100000 2:1 3:2 4:2\nregister\n\
-            default 3 60000 2:1 4:1\nregister\npayment 2 500\n\
-            default 2 0 4:1\nregister\n";
+        let calls = "page\n\
+            default 1 100000 2:1 3:2 4:2\npage\nregister\n\
+            default 3 60000 2:1 4:1\nregister\npayment 2 500\npage\n\
+            default 2 0 4:1\nregister\npage\n";
         DrillCase {
             sheet: example_register(),
             own: 22_000,
@@ -459,6 +498,47 @@ mod tests {
         }
     }
 
+    /// Where the pages of a drill are in what it prints.
+    fn pages(printed: &str) -> Vec<Range<usize>> {
+        let starts = printed.match_indices("LAYER ");
+        starts.map(|(at, _)| at..at + PAGE_BYTES).collect()
+    }
+
+    /// Every byte of every page, its newlines among them.
+    #[test]
+    fn a_changed_page_is_seen() {
+        let case = example();
+        let good = printed(&case);
+        for page in pages(&good) {
+            for at in page {
+                for byte in "0123456789, \nX".chars() {
+                    let changed = [&good[..at], &byte.to_string(), &good[at + 1..]].concat();
+                    let seen = count(&case, &changed).is_err();
+                    assert_eq!(seen, changed != good, "{changed}");
+                }
+            }
+        }
+    }
+
+    #[test]
+    fn a_stale_page_is_seen() {
+        let case = example();
+        let good = printed(&case);
+        let pages = pages(&good);
+        assert_eq!(pages.len(), 3);
+        for at in &pages {
+            let with = |text: &str| [&good[..at.start], text, &good[at.end..]].concat();
+            for other in &pages {
+                let changed = with(&good[other.clone()]);
+                assert_eq!(count(&case, &changed).is_err(), at != other, "{changed}");
+            }
+            assert!(count(&case, &with("no page\n")).is_err());
+            assert!(count(&case, &with("")).is_err());
+        }
+        let early = good.replacen("no page\n", &good[pages[0].clone()], 1);
+        assert!(count(&case, &early).is_err());
+    }
+
     #[test]
     fn an_unasked_change_is_seen() {
         let shown = "register tranche1 1 tranche2 2\n";
@@ -466,5 +546,20 @@ mod tests {
         assert!(unaltered(&[shown, "refused 16\n", shown].concat()).is_ok());
         assert!(unaltered(&[shown, "refused 16\n", changed].concat()).is_err());
         assert!(unaltered(&[shown, "accepted\n", changed].concat()).is_ok());
+    }
+
+    #[test]
+    fn an_unasked_change_of_the_page_is_seen() {
+        let good = printed(&example());
+        let pages: Vec<&str> = pages(&good).into_iter().map(|at| &good[at]).collect();
+        let default = "accepted fallen 0 layers 0 0 0 0 0 0 short 0\n";
+        for between in ["refused 16\n", "unreadable line 2\n", "accepted\n"] {
+            for (first, second) in [(pages[0], pages[1]), ("no page\n", pages[0])] {
+                assert!(unaltered(&[first, between, first].concat()).is_ok());
+                assert!(unaltered(&[first, between, second].concat()).is_err());
+                assert!(unaltered(&[second, between, first].concat()).is_err());
+                assert!(unaltered(&[first, default, between, second].concat()).is_ok());
+            }
+        }
     }
 }

@@ -78,17 +78,42 @@ returns-4 c =
     (check-false _ _ _ (sym (i3 .before .same3 .ensures) ∙ i3 .if3 .left)
     (check-true _ _ _ (sym (i4 .before .same4 .ensures) ∙ i4 .if4 .taken) (c .alone2 .ensures))))
 
+slice-aggregate-same-5 : tie.Need-slice-aggregate-same-5
+slice-aggregate-same-5 c = search needs
+
+same-requires-5 : tie.Need-same-requires-5
+same-requires-5 c κs = search needs
+
+alone-requires-3 : tie.Need-alone-requires-3
+alone-requires-3 c κs = search needs
+
 returns-5 : tie.Need-returns-5
 unfolding otherLine
 returns-5 c =
-    let i4 = c in
+    let i5 = c .before in
+    let i4 = i5 .before .before .before in
     let i3 = i4 .before .before .before in
     let i2 = i3 .before .before .before in
     let i1 = i2 .before .before .before in
     check-false _ _ _ (sym (i1 .before .same .ensures) ∙ i1 .if1 .left)
     (check-false _ _ _ (sym (i2 .before .same2 .ensures) ∙ i2 .if2 .left)
     (check-false _ _ _ (sym (i3 .before .same3 .ensures) ∙ i3 .if3 .left)
-    (check-false _ _ _ (sym (i4 .before .same4 .ensures) ∙ i4 .if4 .left) refl)))
+    (check-false _ _ _ (sym (i4 .before .same4 .ensures) ∙ i4 .if4 .left)
+    (check-true _ _ _ (sym (i5 .before .same5 .ensures) ∙ i5 .if5 .taken) (c .alone3 .ensures)))))
+
+returns-6 : tie.Need-returns-6
+unfolding otherLine
+returns-6 c =
+    let i5 = c in
+    let i4 = i5 .before .before .before in
+    let i3 = i4 .before .before .before in
+    let i2 = i3 .before .before .before in
+    let i1 = i2 .before .before .before in
+    check-false _ _ _ (sym (i1 .before .same .ensures) ∙ i1 .if1 .left)
+    (check-false _ _ _ (sym (i2 .before .same2 .ensures) ∙ i2 .if2 .left)
+    (check-false _ _ _ (sym (i3 .before .same3 .ensures) ∙ i3 .if3 .left)
+    (check-false _ _ _ (sym (i4 .before .same4 .ensures) ∙ i4 .if4 .left)
+    (check-false _ _ _ (sym (i5 .before .same5 .ensures) ∙ i5 .if5 .left) refl))))
 
 pub other-line-spec : {M : Type 1} → statement M
 other-line-spec =
@@ -110,4 +135,8 @@ other-line-spec =
     same-requires-4
     alone-requires-2
     returns-4
-    returns-5)
+    slice-aggregate-same-5
+    same-requires-5
+    alone-requires-3
+    returns-5
+    returns-6)

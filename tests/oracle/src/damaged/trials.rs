@@ -16,11 +16,13 @@ use std::io;
 /// A drill that reaches every call, with remarks, blanks and unreadable lines.
 pub const GOOD_CALLS: &str = "\
 # a drill
+page
 register
 default 1 100000 2:1 3:2 4:2
 register
 
 payment 2 5
+page
 replenishment 4 0000200   # a little
 default 3 60000 2:1 4:1 1: 64:255
 register
@@ -32,11 +34,13 @@ close
 replenishment 2 30001
 replenishment 2 30000
 default 2 1000000 4:
+  page # of member 3
 default 2 1000000 4:7
 register
 default 4 1
 close
-register";
+register
+page";
 
 const GOOD_LINES: [(&str, &str); 3] = [
     (
@@ -145,15 +149,15 @@ impl Maker<'_> {
         self.push(name, "run_drill", arguments, stdin);
     }
 
-    /// A drill with damage between two printed registers.
+    /// A drill with damage between two printed registers and two pages.
     fn drill_about(&mut self, name: &str, damage: &[u8]) {
-        let opening = b"default 1 100000 2:1 3:2 4:2\nregister\n";
-        self.drill(name, &[opening, damage, b"\nregister\n"].concat());
+        let opening = b"default 1 100000 2:1 3:2 4:2\nregister\npage\n";
+        self.drill(name, &[opening, damage, b"\nregister\npage\n"].concat());
     }
 
     fn drill_sheet(&mut self, name: &str, sheet: Vec<u8>) {
         let arguments = vec![self.file("tried.sheet"), "22".into()];
-        let stdin = b"register\nclose\ndefault 1 5 2:1\npayment 1 1\n";
+        let stdin = b"register\npage\nclose\ndefault 1 5 2:1\npayment 1 1\npage\n";
         self.push(name, "run_drill", arguments, stdin);
         self.last_files(vec![("tried.sheet", sheet)]);
     }
@@ -184,8 +188,8 @@ impl Maker<'_> {
         let calls = GOOD_CALLS.as_bytes();
         for length in 0..=calls.len() {
             self.drill("prefix of calls", &calls[..length]);
-            let shown = [&calls[..length], b"\nregister\n"].concat();
-            self.drill("prefix of calls, then register", &shown);
+            let shown = [&calls[..length], b"\nregister\npage\n"].concat();
+            self.drill("prefix of calls, then register and page", &shown);
         }
         for (kind, lines) in GOOD_LINES {
             for length in 0..=lines.len() {
@@ -224,6 +228,7 @@ impl Maker<'_> {
                 fill("", 0, ""),
                 fill("default 2 5 ", b' ', "3:1 4:2"),
                 fill("default 2 5 3:", b'0', "1 4:2"),
+                fill("page", b' ', ""),
             ];
             for line in lines {
                 self.drill_about("long line", &line);
@@ -265,7 +270,7 @@ impl Maker<'_> {
                 self.make(name, kind, lines.replace(from, to).as_bytes());
             }
         }
-        let lines: [&[u8]; 12] = [
+        let lines: [&[u8]; 14] = [
             b"\xef\xbb\xbfclose",
             b"close\0",
             b"close#\0\xff",
@@ -277,6 +282,8 @@ impl Maker<'_> {
             b"payment\xc2\xa02 1",
             b"close\x0b",
             b"close\x0c",
+            b"page\0",
+            b"page\r",
             b"\x1a",
         ];
         for line in lines {
@@ -293,7 +300,8 @@ impl Maker<'_> {
     }
 
     fn random_input(&mut self) {
-        let words = b"default payment replenishment close register 0123456789 :::  #,,\n\n\n\r\0";
+        let words =
+            b"default payment replenishment close register page 0123456789 :::  #,,\n\n\n\r\0";
         for _ in 0..150 {
             let length = self.rng.below(400) as usize;
             let any: Vec<u8> = (0..length).map(|_| self.rng.next() as u8).collect();
@@ -436,7 +444,8 @@ impl Maker<'_> {
             let n = OsString::from(number);
             let zero = OsString::from("0");
             let good = self.file("good.sheet");
-            self.push("G", "run_drill", vec![good, n.clone()], b"register\n");
+            let stdin = b"register\npage\n";
+            self.push("G", "run_drill", vec![good, n.clone()], stdin);
             for pair in [[n.clone(), zero.clone()], [zero, n]] {
                 let sheets = [self.file("stress.sheet"), self.file("shares.sheet")];
                 let all = sheets.into_iter().chain(pair.clone()).collect();
@@ -467,7 +476,7 @@ impl Maker<'_> {
         let shares = self.file("shares.sheet");
         for name in names {
             let file = self.file(name);
-            let stdin = b"close\nregister\ndefault 1 5\n";
+            let stdin = b"close\nregister\ndefault 1 5\npage\n";
             self.push(name, "run_drill", vec![file.clone(), zero.clone()], stdin);
             for sheets in [[&file, &shares], [&stress, &file], [&file, &file]] {
                 let all = sheets.into_iter().chain([&zero, &zero]).cloned();

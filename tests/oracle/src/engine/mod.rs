@@ -1,5 +1,6 @@
 //! The rules of the default fund and its loss waterfall, written for speed: nothing here allocates.
 
+mod page;
 mod register;
 mod sheet;
 mod sizing;
@@ -7,6 +8,7 @@ mod split;
 mod stress;
 mod waterfall;
 
+pub use page::{print_page, PAGE_BYTES};
 pub use register::{Call, Register};
 pub use sheet::{MEMBER_SHEET_BYTES, RECORD, STRESS_SHEET_BYTES};
 pub use sizing::{review, size};

@@ -8,7 +8,7 @@ use crate::rng::Rng;
 use crate::text::{Console, Line};
 
 /// Lines that are nothing, or (all but one) that no console can read.
-pub const NOISE: [&str; 34] = [
+pub const NOISE: [&str; 37] = [
     "",
     "   ",
     "# a remark",
@@ -43,6 +43,9 @@ pub const NOISE: [&str; 34] = [
     "default 1 5 2:1 2:1",
     "default 1 5 2: 2:",
     "register all",
+    "page 1",
+    "pages",
+    "Page",
 ];
 
 /// What a step of the drill does; tempers weigh these in this order.
@@ -57,9 +60,10 @@ enum Step {
     TopUp,
     Noise,
     Show,
+    Page,
 }
 
-const STEPS: [Step; 9] = [
+const STEPS: [Step; 10] = [
     Step::Default,
     Step::Payment,
     Step::Replenishment,
@@ -69,13 +73,14 @@ const STEPS: [Step; 9] = [
     Step::TopUp,
     Step::Noise,
     Step::Show,
+    Step::Page,
 ];
 
-const TEMPERS: [[u64; 9]; 4] = [
-    [30, 15, 12, 6, 10, 6, 6, 8, 3],
-    [60, 5, 5, 2, 5, 2, 10, 3, 1],
-    [30, 2, 2, 2, 25, 20, 10, 2, 1],
-    [20, 15, 15, 10, 5, 5, 5, 25, 5],
+const TEMPERS: [[u64; 10]; 4] = [
+    [30, 15, 12, 6, 10, 6, 6, 8, 3, 4],
+    [60, 5, 5, 2, 5, 2, 10, 3, 1, 2],
+    [30, 2, 2, 2, 25, 20, 10, 2, 1, 2],
+    [20, 15, 15, 10, 5, 5, 5, 25, 5, 6],
 ];
 
 pub fn drill(seed: u64) -> DrillCase {
@@ -142,6 +147,7 @@ impl Maker {
             _ if self.rng.chance(12) => 4 * members,
             _ => 30,
         };
+        self.perhaps_page(10);
         for _ in 0..self.rng.range(0, most) {
             match STEPS[self.rng.weighted(&temper)] {
                 Step::Default => self.declare(),
@@ -153,9 +159,11 @@ impl Maker {
                 Step::TopUp => self.refill(9),
                 Step::Noise => self.noise(),
                 Step::Show => self.say(vec!["register".into()]),
+                Step::Page => self.say(vec!["page".into()]),
             }
         }
         self.say(vec!["register".into()]);
+        self.perhaps_page(10);
         if self.rng.chance(20) {
             self.calls.pop(); // the last line may lack its newline
         }
@@ -188,6 +196,14 @@ impl Maker {
             _ => {}
         }
         self.line(&line);
+    }
+
+    /// So many times in a hundred a page is asked for, now and then once more.
+    fn perhaps_page(&mut self, mut percent: u64) {
+        while self.rng.chance(percent) {
+            self.say(vec!["page".into()]);
+            percent = 20;
+        }
     }
 
     fn number(&mut self, number: u64) -> String {
@@ -308,6 +324,7 @@ impl Maker {
         let mut words = vec!["default".into(), self.number(member), self.number(loss)];
         words.extend(self.ranks(member));
         self.say(words);
+        self.perhaps_page(25);
         self.say(vec!["register".into()]);
     }
 

@@ -2,7 +2,10 @@
 
 use super::lines::{number, words, Line, Lines};
 use super::refused;
-use crate::engine::{Call, DefaultAnswer, Places, Register, DEFAULT_SLIP, MEMBERS, MISSING_RANK};
+use crate::engine::{
+    print_page, Call, DefaultAnswer, Places, Register, DEFAULT_SLIP, MEMBERS, MISSING_RANK,
+    PAGE_BYTES,
+};
 use std::io::{self, BufRead, Write};
 
 /// What a line of the drill says.
@@ -11,6 +14,7 @@ pub enum Reading {
     Nothing,
     Call(Call),
     Register,
+    Page,
     Unreadable,
 }
 
@@ -31,6 +35,7 @@ pub fn read_line(line: Line) -> Reading {
             .map(|(member, amount)| Reading::Call(Call::Replenishment { member, amount })),
         b"close" => Some(Reading::Call(Call::Close)),
         b"register" => Some(Reading::Register),
+        b"page" => Some(Reading::Page),
         _ => None,
     };
     match reading {
@@ -81,6 +86,8 @@ fn read_rank(word: &[u8]) -> Option<(usize, u8)> {
 pub struct Console {
     register: Register,
     slip: [u64; DEFAULT_SLIP],
+    /// What the latest accepted default answered, for its page.
+    latest: Option<DefaultAnswer>,
 }
 
 impl Console {
@@ -99,6 +106,7 @@ impl Console {
         Ok(Console {
             register,
             slip: [0; DEFAULT_SLIP],
+            latest: None,
         })
     }
 
@@ -112,9 +120,13 @@ impl Console {
             Reading::Nothing => Ok(()),
             Reading::Unreadable => writeln!(out, "unreadable line {at}"),
             Reading::Register => self.print_register(out),
+            Reading::Page => self.print_latest_page(out),
             Reading::Call(call) => match self.register.make(&call, &mut self.slip) {
                 Ok(None) => writeln!(out, "accepted"),
-                Ok(Some(answer)) => self.print_default(&answer, out),
+                Ok(Some(answer)) => {
+                    self.latest = Some(answer);
+                    self.print_default(&answer, out)
+                }
                 Err(number) => writeln!(out, "refused {number}"),
             },
         }
@@ -133,6 +145,15 @@ impl Console {
             }
         }
         Ok(())
+    }
+
+    fn print_latest_page(&self, out: &mut dyn Write) -> io::Result<()> {
+        let Some(answer) = &self.latest else {
+            return writeln!(out, "no page");
+        };
+        let mut page = [0; PAGE_BYTES];
+        print_page(answer, &mut page).expect("a whole page and amounts within its limit");
+        out.write_all(&page)
     }
 
     fn print_register(&self, out: &mut dyn Write) -> io::Result<()> {
@@ -192,6 +213,7 @@ mod tests {
         assert_eq!(reading("  # nothing"), Reading::Nothing);
         assert_eq!(reading(" close# now"), Reading::Call(Call::Close));
         assert_eq!(reading("register "), Reading::Register);
+        assert_eq!(reading("  page # for the wall"), Reading::Page);
         let (member, amount) = (0, u64::MAX);
         assert_eq!(
             reading("payment  000 18446744073709551615"),
@@ -230,23 +252,88 @@ mod tests {
             "default 1 5 2:1:1",
             "default 1 5 :1",
             "register all",
+            "page 1",
+            "pages",
+            "Page",
+            "page\r",
         ];
         for line in lines {
             assert_eq!(reading(line), Reading::Unreadable, "{line}");
         }
     }
 
+    /// What a drill of the example register prints.
+    fn printed(calls: &str) -> String {
+        let sheet = crate::generate::example_register();
+        let mut out = Vec::new();
+        run_drill(&sheet, 22_000, calls.as_bytes(), &mut out).unwrap();
+        String::from_utf8(out).unwrap()
+    }
+
     #[test]
     fn the_printed_example() {
-        let sheet = crate::generate::example_register();
-        let calls = b"default 1 100000 2:1 3:2 4:2\npayment 2 5\n";
-        let mut out = Vec::new();
-        run_drill(&sheet, 22_000, &calls[..], &mut out).unwrap();
         let expected = "opening accepted\n\
             accepted fallen 0 layers 50000 20000 13200 16800 0 0 short 0\n  \
               member 3 charged 5600 called 0\n  \
               member 4 charged 11200 called 0\n\
             refused 16\n";
+        let calls = "default 1 100000 2:1 3:2 4:2\npayment 2 5\n";
+        assert_eq!(printed(calls), expected);
+    }
+
+    const FIRST_PAGE: &str = "\
+        LAYER                        Rs THOUSAND\n\
+        MARGIN                            50,000\n\
+        OWN FUND                          20,000\n\
+        TRANCHE 1                         13,200\n\
+        MEMBERS                           16,800\n\
+        TRANCHE 2                              0\n\
+        CALLS                                  0\n\
+        SHORT                                  0\n";
+
+    const SECOND_PAGE: &str = "\
+        LAYER                        Rs THOUSAND\n\
+        MARGIN                                 0\n\
+        OWN FUND                           4,400\n\
+        TRANCHE 1                              0\n\
+        MEMBERS                           38,800\n\
+        TRANCHE 2                          8,800\n\
+        CALLS                              8,000\n\
+        SHORT                                  0\n";
+
+    #[test]
+    fn pages_of_the_latest_accepted_default() {
+        let calls = "page\n\
+            default 1 100000 2:1 3:2\npage\n\
+            default 1 100000 2:1 3:2 4:2\npage\n\
+            close\npayment 2 5\npage 1\ndefault 1 5\npage\npage\n\
+            default 3 60000 2:1 4:1\npayment 2 5\nreplenishment 2 1\npage\n\
+            default 2 0\npage\n";
+        let expected = [
+            "opening accepted\nno page\nrefused 15\nno page\n\
+            accepted fallen 0 layers 50000 20000 13200 16800 0 0 short 0\n  \
+              member 3 charged 5600 called 0\n  \
+              member 4 charged 11200 called 0\n",
+            FIRST_PAGE,
+            "accepted\nrefused 16\nunreadable line 8\nrefused 12\n",
+            FIRST_PAGE,
+            FIRST_PAGE,
+            "accepted fallen 0 layers 0 4400 0 38800 8800 8000 short 0\n  \
+              member 2 charged 30000 called 8000\n  \
+              member 4 charged 8800 called 0\n\
+            accepted\naccepted\n",
+            SECOND_PAGE,
+            "refused 15\n",
+            SECOND_PAGE,
+        ];
+        assert_eq!(printed(calls), expected.concat());
+    }
+
+    #[test]
+    fn no_page_after_a_refused_opening() {
+        let mut out = Vec::new();
+        run_drill(&[], 0, &b"page\ndefault 1 5\npage"[..], &mut out).unwrap();
+        let expected = "opening refused 1\nno page\nrefused 11\nno page\n";
         assert_eq!(String::from_utf8(out).unwrap(), expected);
     }
 }

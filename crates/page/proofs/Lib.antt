@@ -1,0 +1,3 @@
+-- The laws that the proofs cite, and the theorem.
+pub mod Rows
+pub mod Theorem

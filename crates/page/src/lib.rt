@@ -1,0 +1,81 @@
+// A default's answer as a page for the wall: document 02, request 1.
+use buffers::put_spaces;
+use buffers::put_text;
+use indian_digits::put_amount;
+use lists::PRINTED_LIMIT;
+use waterfall::Allocation;
+ghost use mathlib.Core.Path.{_≡_};
+ghost use Prim.Native.Nat.{_+_, _≤_};
+ghost use lib.ListN.{length};
+ghost use Rattle.lists.specs.Limits.{printedLimit};
+ghost use Rattle.buffers.specs.Buffer.{written};
+ghost use Rattle.page.specs.Page.{amountsOf, anyAbove, heading, line, rowOf, pageOf, pageLength, pageRefusal, pageLeft};
+ghost use Rattle.page.specs.Parts.{Within};
+
+// Eight lines of 40 bytes, and byte 10 behind each.
+const PAGE_LENGTH: usize = 328;
+
+// Whether an amount is above what a page prints.
+fn excessive(a: Allocation) -> bool
+    ensures { λ r. ⌜ r ≡ anyAbove printedLimit (amountsOf a) ⌝ }
+{
+    (PRINTED_LIMIT < a.margin)
+        | (PRINTED_LIMIT < a.contribution)
+        | (PRINTED_LIMIT < a.tranche1)
+        | (PRINTED_LIMIT < a.members)
+        | (PRINTED_LIMIT < a.tranche2)
+        | (PRINTED_LIMIT < a.calls)
+        | (PRINTED_LIMIT < a.short)
+}
+
+// The first line. Answers the place after it, as the others do.
+fn put_heading(page: &mut [u8]) -> usize
+    requires { ⌜ 41 ≤ length (now page) ⌝ }
+    ensures { λ r. ⌜ (r ≡ 0 + length (line heading)) × (now (page .exit) ≡ written (now (page .entry)) 0 (line heading)) ⌝ }
+    ensures { λ r. ⌜ r ≡ 41 ⌝ }
+{
+    let end = put_text(page, 0, b"LAYER                        Rs THOUSAND");
+    page[end] = 10;
+    end + 1
+}
+
+// A layer's line at the place `at`. The amount goes first, from its end: where it begins, the spaces before it end.
+fn put_row(page: &mut [u8], at: usize, name: &[u8], amount: u64) -> usize
+    requires { ⌜ (at + 41 ≤ length (now page)) × (length (now name) ≤ 20) × (amount ≤ printedLimit) ⌝ }
+    ensures { λ r. ⌜ (r ≡ at + length (line (rowOf (now (name .entry)) amount))) × (now (page .exit) ≡ written (now (page .entry)) at (line (rowOf (now (name .entry)) amount))) ⌝ }
+    ensures { λ r. ⌜ r ≡ at + 41 ⌝ }
+{
+    let end = at + 40;
+    let begin = put_amount(page, end, amount);
+    let behind = put_text(page, at, name);
+    put_spaces(page, behind, begin);
+    page[end] = 10;
+    end + 1
+}
+
+// The eight lines, at the front.
+fn put_lines(page: &mut [u8], a: Allocation)
+    requires { ⌜ (pageLength ≤ length (now page)) × Within a ⌝ }
+    ensures { λ _. ⌜ now (page .exit) ≡ written (now (page .entry)) 0 (pageOf a) ⌝ }
+{
+    let margin = put_heading(page);
+    let contribution = put_row(page, margin, b"MARGIN", a.margin);
+    let tranche1 = put_row(page, contribution, b"OWN FUND", a.contribution);
+    let members = put_row(page, tranche1, b"TRANCHE 1", a.tranche1);
+    let tranche2 = put_row(page, members, b"MEMBERS", a.members);
+    let calls = put_row(page, tranche2, b"TRANCHE 2", a.tranche2);
+    let short = put_row(page, calls, b"CALLS", a.calls);
+    put_row(page, short, b"SHORT", a.short);
+}
+
+// The page of an answer, put into the front of a lent one. Answers 0, or 20 where it is refused, before anything is written.
+pub fn print(answer: Allocation, page: &mut [u8]) -> u8
+    ensures { λ r. ⌜ r ≡ pageRefusal answer (now (page .entry)) ⌝ }
+    ensures { λ _. ⌜ now (page .exit) ≡ pageLeft answer (now (page .entry)) ⌝ }
+{
+    if (page.len() < PAGE_LENGTH) | excessive(answer) {
+        return 20;
+    }
+    put_lines(page, answer);
+    0
+}

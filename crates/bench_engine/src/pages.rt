@@ -21,12 +21,9 @@ fn once(turn: u64, page: &mut [u8; 328]) {
     );
 }
 
-// The last digit of each row stands for it.
-fn fold_page(sum: u64, page: &[u8; 328]) -> u64 {
-    let a = fold(fold(sum, wide(page[80])), wide(page[121]));
-    let b = fold(fold(a, wide(page[162])), wide(page[203]));
-    let c = fold(fold(b, wide(page[244])), wide(page[285]));
-    fold(c, wide(page[326]))
+// One byte stands for the page, another one each turn, so that all have to be there.
+fn fold_page(sum: u64, page: &[u8; 328], turn: u64) -> u64 {
+    fold(sum, wide(page[(turn % 328) as usize]))
 }
 
 pub fn run(turns: u64) -> u64 {
@@ -35,7 +32,7 @@ pub fn run(turns: u64) -> u64 {
     let mut turn: u64 = 0;
     while turn < turns {
         once(turn, &mut page);
-        sum = fold_page(sum, &page);
+        sum = fold_page(sum, &page, turn);
         turn += 1;
     }
     sum

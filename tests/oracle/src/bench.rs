@@ -13,8 +13,6 @@ pub const CASES: &str = "distinct, tied, calls, page, sizing STRESS SHARES";
 const DEFAULTER: u64 = 17;
 const PREVAILING: u64 = 70_000_000;
 const AVAILABLE: u64 = 5_000_000;
-/// Where the amounts of a page end.
-const LAST_DIGITS: [usize; 7] = [80, 121, 162, 203, 244, 285, 326];
 
 /// Runs one case so many times and gives the checksum; none where there is no such case.
 pub fn bench(case: &str, repetitions: u64, files: &[OsString]) -> io::Result<Option<u64>> {
@@ -101,16 +99,13 @@ fn page_answer(turn: u64) -> DefaultAnswer {
     }
 }
 
-/// One page is lent to every turn; the last digit of each amount stands for it.
+/// One page is lent to every turn; one byte stands for it, another one each turn, so that all have to be there.
 fn repeat_page(repetitions: u64) -> u64 {
     let mut page = [0; PAGE_BYTES];
     (0..repetitions).fold(0, |sum, turn| {
         let answer = page_answer(turn);
         print_page(black_box(&answer), black_box(&mut page)).expect("a good answer");
-        let page = black_box(&page);
-        LAST_DIGITS
-            .iter()
-            .fold(sum, |sum, &at| fold(sum, page[at] as u64))
+        fold(sum, black_box(&page)[turn as usize % PAGE_BYTES] as u64)
     })
 }
 
@@ -155,11 +150,15 @@ mod tests {
     }
 
     #[test]
-    fn last_digits_of_the_page() {
-        let digits = |sum, text: &str| text.bytes().fold(sum, |sum, digit| fold(sum, digit as u64));
+    fn the_bytes_of_the_page_in_turn() {
+        let bytes = |sum, text: &str| text.bytes().fold(sum, |sum, byte| fold(sum, byte as u64));
         assert_eq!(repeat_page(0), 0);
-        assert_eq!(repeat_page(1), digits(0, "9310290"));
-        assert_eq!(repeat_page(2), digits(digits(0, "9310290"), "0421301"));
-        assert_eq!(repeat_page(9), digits(repeat_page(8), "9310290"));
+        assert_eq!(
+            repeat_page(40),
+            bytes(0, "LAYER                        Rs THOUSAND")
+        );
+        assert_eq!(repeat_page(47), bytes(repeat_page(40), "\nMARGIN"));
+        // 50,632 to 50,636, then 50,629 again
+        assert_eq!(repeat_page(81), bytes(repeat_page(75), "50,639"));
     }
 }

@@ -1,6 +1,7 @@
 // What a console host in C calls: see host.h.
 use waterfall::Allocation;
 ghost use mathlib.Core.Path.{_≡_};
+ghost use lib.ListN.{length};
 ghost use Rattle.sizing.specs.Review.{reviewDue};
 ghost use Rattle.waterfall.specs.Opening.{openedOf};
 ghost use Rattle.page.specs.Page.{pageRefusal, pageLeft};
@@ -40,7 +41,7 @@ pub struct DefaultAnswer {
 // length 0.
 #[no_mangle]
 pub extern "C" fn print_page(answer: DefaultAnswer, page: &mut [u8]) -> u8
-    ensures { λ r. ⌜ r ≡ pageRefusal (answerOf answer) (now (page .entry)) ⌝ }
+    ensures { λ r. ⌜ r ≡ pageRefusal (answerOf answer) (length (now (page .entry))) ⌝ }
     ensures { λ _. ⌜ now (page .exit) ≡ pageLeft (answerOf answer) (now (page .entry)) ⌝ }
 {
     page::print(

@@ -1,11 +1,11 @@
 -- Laws of a page's rows: their lengths, and how they are put.
-use Prim.Native.Nat.{ℕ, zero, suc, _+_, _-_, _≤_}
+use Prim.Native.Nat.{ℕ, _+_, _-_, _≤_, _<_}
 use mathlib.Core.Path.{_≡_, refl, sym, ap, _∙_}
-use mathlib.Core.Bool.{Bool, true, false, _||_}
+use mathlib.Core.Bool.{Bool, true, false}
 use mathlib.Core.List.{List, [], _∷_, _++_, append-assoc}
 use native.Mathlib.Nat.{zero-add}
 use native.Mathlib.Omega.{arith}
-use borrow.Author.Tests.{ltb-false, le-ltb}
+use borrow.Author.Tests.{ltb-false, le-ltb, lt-ltb}
 use lib.Dec.{ltb}
 use lib.ListN.{length, drop, set, length-append}
 use Rattle.lists.specs.Limits.{printedLimit}
@@ -57,6 +57,13 @@ heading-put p₀ p₁ r h w =
       ),
       omega (arith, w .0),
     )
+
+-- an amount has room before the place where it ends, and the name before it
+pub amount-room : (n end : ℕ) → n ≤ printedLimit → 20 ≤ end → length (indianOf n) ≤ end
+amount-room n end h k = omega (arith, amount-fits n h)
+
+pub name-room : (name : List ℕ) (n at end begin behind : ℕ) → begin + length (indianOf n) ≡ end → behind ≡ at + length name → length name ≤ 20 → n ≤ printedLimit → at + 40 ≤ end → behind ≤ begin
+name-room name n at end begin behind e f s h k = omega (arith, amount-fits n h)
 
 -- a row as it is put: the name, the spaces, the amount
 row-as : (name amount : List ℕ) (gap : ℕ) → gap ≡ (20 - length name) + (20 - length amount) → name ++ spaces gap ++ amount ≡ leftAligned name ++ rightAligned amount
@@ -112,18 +119,33 @@ amounts-within a e =
       short = r7 .0;
     }
 
-pub within : (a : Allocation) (page : List ℕ) → pageRefusal a page ≡ 0 → Within a
+pub within : (a : Allocation) (size : ℕ) → pageRefusal a size ≡ 0 → (pageLength ≤ size) × Within a
 unfolding pageRefusal
-within a page e =
-    amounts-within a (neither (ltb (length page) pageLength) _ (check-past _ 20 0 (λ q. omega arith) e .0) .1)
+within a size e =
+    let f = neither (ltb size pageLength) _ (check-past _ 20 0 (λ q. omega arith) e .0) in
+    (ltb-false size pageLength (f .0), amounts-within a (f .1))
 
 pub none-above : (a : Allocation) → Within a → anyAbove printedLimit (amountsOf a) ≡ false
 none-above a w =
     rw (le-ltb printedLimit (a .margin) (w .margin), le-ltb printedLimit (a .contribution) (w .contribution), le-ltb printedLimit (a .tranche1) (w .tranche1), le-ltb printedLimit (a .members) (w .members), le-ltb printedLimit (a .tranche2) (w .tranche2), le-ltb printedLimit (a .calls) (w .calls), le-ltb printedLimit (a .short) (w .short))
 
-pub printable : (a : Allocation) (page : List ℕ) → Within a → pageLength ≤ length page → pageRefusal a page ≡ 0
+pub printable : (a : Allocation) (size : ℕ) → Within a → pageLength ≤ size → pageRefusal a size ≡ 0
 unfolding pageRefusal check
-printable a page w h = rw (le-ltb (length page) pageLength h, none-above a w)
+printable a size w h = rw (le-ltb size pageLength h, none-above a w)
+
+-- the two tests in turn
+pub too-short : (a : Allocation) (size : ℕ) → size < pageLength → 20 ≡ pageRefusal a size
+unfolding pageRefusal check
+too-short a size h = rw (lt-ltb size pageLength h)
+
+module _ (a : Allocation) (size : ℕ) {above : Bool} (h : pageLength ≤ size) (e : above ≡ anyAbove printedLimit (amountsOf a)) where
+  pub too-large : above ≡ true → 20 ≡ pageRefusal a size
+  unfolding pageRefusal check
+  too-large t = rw (le-ltb size pageLength h, sym e ∙ t)
+
+  pub not-refused : above ≡ false → 0 ≡ pageRefusal a size
+  unfolding pageRefusal check
+  not-refused f = rw (le-ltb size pageLength h, sym e ∙ f)
 
 -- a page has 328 bytes
 pub page-length : (a : Allocation) → Within a → length (pageOf a) ≡ pageLength
@@ -132,28 +154,21 @@ page-length a w =
     simp length-append
     (omega (arith, row-length (ascii "MARGIN") (a .margin) (omega arith) (w .margin), row-length (ascii "OWN FUND") (a .contribution) (omega arith) (w .contribution), row-length (ascii "TRANCHE 1") (a .tranche1) (omega arith) (w .tranche1), row-length (ascii "MEMBERS") (a .members) (omega arith) (w .members), row-length (ascii "TRANCHE 2") (a .tranche2) (omega arith) (w .tranche2), row-length (ascii "CALLS") (a .calls) (omega arith) (w .calls), row-length (ascii "SHORT") (a .short) (omega arith) (w .short)))
 
--- A page that is lent, and what the test of it answered: refused, or printed -----------
-
-module _ (a : Allocation) (page : List ℕ) {above : Bool} (e : above ≡ anyAbove printedLimit (amountsOf a)) where
-  tested : (ltb (length page) pageLength || above) ≡ (ltb (length page) pageLength || anyAbove printedLimit (amountsOf a))
-  tested = ap (λ (b : Bool). ltb (length page) pageLength || b) e
-
-  pub page-refused : (ltb (length page) pageLength || above) ≡ true → (20 ≡ pageRefusal a page) × (page ≡ pageLeft a page)
-  unfolding pageLeft pageRefusal check
-  page-refused t = rw (sym tested ∙ t) (refl, refl)
-
-  pub page-within : (ltb (length page) pageLength || above) ≡ false → (pageLength ≤ length page) × Within a
-  page-within t =
-      let f = neither _ _ (sym tested ∙ t) in
-      (ltb-false (length page) pageLength (f .0), amounts-within a (f .1))
-
-  pub page-printed : (left : List ℕ) → (ltb (length page) pageLength || above) ≡ false → left ≡ written page 0 (pageOf a) → (0 ≡ pageRefusal a page) × (left ≡ pageLeft a page)
-  unfolding pageLeft pageRefusal check
-  page-printed left t w =
-      rw (sym tested ∙ t) (refl, w ∙ written-front page (pageOf a) pageLength (page-length a (page-within t .1)))
-
 -- a page that is printed
 pub left-written : (a : Allocation) (page : List ℕ) → Within a → pageLength ≤ length page → pageLeft a page ≡ written page 0 (pageOf a)
 unfolding pageLeft check
 left-written a page w h =
-    rw (printable a page w h) (sym (written-front page (pageOf a) pageLength (page-length a w)))
+    rw (printable a (length page) w h) (sym (written-front page (pageOf a) pageLength (page-length a w)))
+
+-- A page that is lent, and what the test of it answered: refused, or printed -----------
+
+module _ (a : Allocation) (page : List ℕ) {number : ℕ} (e : number ≡ pageRefusal a (length page)) where
+  pub page-refused : 0 < number → (number ≡ pageRefusal a (length page)) × (page ≡ pageLeft a page)
+  unfolding pageLeft check
+  page-refused h = (e, rw (lt-ltb 0 (pageRefusal a (length page)) (omega arith)) refl)
+
+  pub page-asks : number ≤ 0 → (pageLength ≤ length page) × Within a
+  page-asks h = within a (length page) (omega arith)
+
+  pub page-printed : (left : List ℕ) → number ≤ 0 → left ≡ written page 0 (pageOf a) → (0 ≡ pageRefusal a (length page)) × (left ≡ pageLeft a page)
+  page-printed left h w = (omega arith, w ∙ sym (left-written a page (page-asks h .1) (page-asks h .0)))

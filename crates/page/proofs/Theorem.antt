@@ -70,15 +70,17 @@ pages-apart a b v w e =
     rw (r1 .1, r2 .1, r3 .1, r4 .1, r5 .1, r6 .1, r7 .1)
 
 -- what an accepted page has in front
-left-page : (a : Allocation) (page : List ℕ) → pageRefusal a page ≡ 0 → take pageLength (pageLeft a page) ≡ pageOf a
+left-page : (a : Allocation) (page : List ℕ) → pageRefusal a (length page) ≡ 0 → take pageLength (pageLeft a page) ≡ pageOf a
 unfolding pageLeft check
-left-page a page e = rw e (take-at (pageOf a) (drop pageLength page) pageLength (page-length a (within a page e)))
+left-page a page e = rw e (take-at (pageOf a) (drop pageLength page) pageLength (page-length a (within a (length page) e .1)))
 
 -- The theorem -----------------------------------------------------------------------
 
 pub no-two-alike : (a b : Allocation) (page other : List ℕ) → PrintAlike a page b other → amountsOf a ≡ amountsOf b
 no-two-alike a b page other e =
-    pages-apart a b (within a page (e .0)) (within b other (e .1)) (sym (left-page a page (e .0)) ∙ e .2 ∙ left-page b other (e .1))
+    let p : pageRefusal a (length page) ≡ 0 = omega (arith, e .0) in
+    let q : pageRefusal b (length other) ≡ 0 = omega (arith, e .1) in
+    pages-apart a b (within a (length page) p .1) (within b (length other) q .1) (sym (left-page a page p) ∙ e .2 ∙ left-page b other q)
 
 -- Every default's answer can be printed ---------------------------------------------
 
@@ -98,7 +100,7 @@ answers-within r member loss ranks slip g e =
       short = omega (arith, fits, fallen, sum);
     }
 
-pub answers-print : (r : Register) (member loss : ℕ) (ranks slip page : List ℕ) → GivenBack r → defaultRefusal r member loss ranks slip ≡ 0
-    → pageLength ≤ length page → pageRefusal (allocationOf r member loss ranks) page ≡ 0
-answers-print r member loss ranks slip page g e h =
-    printable (allocationOf r member loss ranks) page (answers-within r member loss ranks slip g e) h
+pub answers-print : (r : Register) (member loss : ℕ) (ranks slip : List ℕ) (size : ℕ) → GivenBack r → defaultRefusal r member loss ranks slip ≡ 0
+    → pageLength ≤ size → pageRefusal (allocationOf r member loss ranks) size ≡ 0
+answers-print r member loss ranks slip size g e h =
+    printable (allocationOf r member loss ranks) size (answers-within r member loss ranks slip g e) h

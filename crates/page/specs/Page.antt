@@ -57,18 +57,18 @@ abbrev pub anyAbove : ℕ → List ℕ → Bool
 anyAbove limit [] = false
 anyAbove limit (n ∷ ns) = ltb limit n || anyAbove limit ns
 
--- 20. "page buffer below 328 bytes or an amount above 26,000,000,000"
-unfoldable pub pageRefusal : Allocation → List ℕ → ℕ
-pageRefusal a page =
-    check (ltb (length page) pageLength || anyAbove printedLimit (amountsOf a)) 20
+-- 20. "page buffer below 328 bytes or an amount above 26,000,000,000". `size` is how many bytes are lent.
+unfoldable pub pageRefusal : Allocation → ℕ → ℕ
+pageRefusal a size =
+    check (ltb size pageLength || anyAbove printedLimit (amountsOf a)) 20
     0
 
 -- the lent page as it is left: "before anything is written", and "Bytes after the page stay."
 unfoldable pub pageLeft : Allocation → List ℕ → List ℕ
-pageLeft a page = check (refuses (pageRefusal a page)) page (pageOf a ++ drop pageLength page)
+pageLeft a page = check (refuses (pageRefusal a (length page))) page (pageOf a ++ drop pageLength page)
 
 -- Two answers are printed, each on a page of its own, and the pages are the same. "No two default answers with different layers or shortfalls
 -- may print alike": theorem `no-two-alike` in proofs/Theorem.antt.
 abbrev pub PrintAlike : Allocation → List ℕ → Allocation → List ℕ → Type 0
 PrintAlike a page b other =
-    (pageRefusal a page ≡ 0) × (pageRefusal b other ≡ 0) × (take pageLength (pageLeft a page) ≡ take pageLength (pageLeft b other))
+    (pageRefusal a (length page) ≡ 0) × (pageRefusal b (length other) ≡ 0) × (take pageLength (pageLeft a page) ≡ take pageLength (pageLeft b other))

@@ -28,6 +28,19 @@ fn excessive(a: Allocation) -> bool
         | (PRINTED_LIMIT < a.short)
 }
 
+// 20 where an answer is not printed on so many bytes, 0 else.
+fn refusal(a: Allocation, size: usize) -> u8
+    ensures { λ r. ⌜ r ≡ pageRefusal a size ⌝ }
+{
+    if size < PAGE_LENGTH {
+        return 20;
+    }
+    if excessive(a) {
+        return 20;
+    }
+    0
+}
+
 // The first line. Answers the place after it, as the others do.
 fn put_heading(page: &mut [u8]) -> usize
     requires { ⌜ 41 ≤ length (now page) ⌝ }
@@ -45,12 +58,11 @@ fn put_row(page: &mut [u8], at: usize, name: &[u8], amount: u64) -> usize
     ensures { λ r. ⌜ (r ≡ at + length (line (rowOf (now (name .entry)) amount))) × (now (page .exit) ≡ written (now (page .entry)) at (line (rowOf (now (name .entry)) amount))) ⌝ }
     ensures { λ r. ⌜ r ≡ at + 41 ⌝ }
 {
-    let end = at + 40;
-    let begin = put_amount(page, end, amount);
+    let begin = put_amount(page, at + 40, amount);
     let behind = put_text(page, at, name);
     put_spaces(page, behind, begin);
-    page[end] = 10;
-    end + 1
+    page[at + 40] = 10;
+    at + 41
 }
 
 // The eight lines, at the front.
@@ -70,11 +82,12 @@ fn put_lines(page: &mut [u8], a: Allocation)
 
 // The page of an answer, put into the front of a lent one. Answers 0, or 20 where it is refused, before anything is written.
 pub fn print(answer: Allocation, page: &mut [u8]) -> u8
-    ensures { λ r. ⌜ r ≡ pageRefusal answer (now (page .entry)) ⌝ }
+    ensures { λ r. ⌜ r ≡ pageRefusal answer (length (now (page .entry))) ⌝ }
     ensures { λ _. ⌜ now (page .exit) ≡ pageLeft answer (now (page .entry)) ⌝ }
 {
-    if (page.len() < PAGE_LENGTH) | excessive(answer) {
-        return 20;
+    let number = refusal(answer, page.len());
+    if 0 < number {
+        return number;
     }
     put_lines(page, answer);
     0

@@ -16,7 +16,7 @@ put-row-requires : tie.Need-put-row-requires
 put-row-requires c κs =
     let r0 = c .before .before .before .before in
     let s = r0 .before .before .before in
-    (omega (arith, s .pre .0, r0 .put-heading .ensures .1, r0 .put-heading .kept .0), omega arith, s .pre .1 .margin)
+    (omega (arith, s .pre .0, r0 .put-heading .ensures .1, r0 .put-heading .kept .0), omega arith, omega (arith, s .pre .1 .margin))
 
 slice-aggregate-put-row-2 : tie.Need-slice-aggregate-put-row-2
 slice-aggregate-put-row-2 c = search needs
@@ -26,7 +26,7 @@ put-row-requires-2 c κs =
     let r1 = c .before .before .before .before in
     let r0 = r1 .before .before .before .before .before in
     let s = r0 .before .before .before in
-    (omega (arith, s .pre .0, r1 .put-row .ensures .1, r1 .put-row .kept .0, r0 .put-heading .ensures .1, r0 .put-heading .kept .0), omega arith, s .pre .1 .contribution)
+    (omega (arith, s .pre .0, r1 .put-row .ensures .1, r1 .put-row .kept .0, r0 .put-heading .ensures .1, r0 .put-heading .kept .0), omega arith, omega (arith, s .pre .1 .contribution))
 
 slice-aggregate-put-row-3 : tie.Need-slice-aggregate-put-row-3
 slice-aggregate-put-row-3 c = search needs
@@ -37,7 +37,7 @@ put-row-requires-3 c κs =
     let r1 = r2 .before .before .before .before .before in
     let r0 = r1 .before .before .before .before .before in
     let s = r0 .before .before .before in
-    (omega (arith, s .pre .0, r2 .put-row2 .ensures .1, r2 .put-row2 .kept .0, r1 .put-row .ensures .1, r1 .put-row .kept .0, r0 .put-heading .ensures .1, r0 .put-heading .kept .0), omega arith, s .pre .1 .tranche1)
+    (omega (arith, s .pre .0, r2 .put-row2 .ensures .1, r2 .put-row2 .kept .0, r1 .put-row .ensures .1, r1 .put-row .kept .0, r0 .put-heading .ensures .1, r0 .put-heading .kept .0), omega arith, omega (arith, s .pre .1 .tranche1))
 
 slice-aggregate-put-row-4 : tie.Need-slice-aggregate-put-row-4
 slice-aggregate-put-row-4 c = search needs
@@ -49,7 +49,7 @@ put-row-requires-4 c κs =
     let r1 = r2 .before .before .before .before .before in
     let r0 = r1 .before .before .before .before .before in
     let s = r0 .before .before .before in
-    (omega (arith, s .pre .0, r3 .put-row3 .ensures .1, r3 .put-row3 .kept .0, r2 .put-row2 .ensures .1, r2 .put-row2 .kept .0, r1 .put-row .ensures .1, r1 .put-row .kept .0, r0 .put-heading .ensures .1, r0 .put-heading .kept .0), omega arith, s .pre .1 .members)
+    (omega (arith, s .pre .0, r3 .put-row3 .ensures .1, r3 .put-row3 .kept .0, r2 .put-row2 .ensures .1, r2 .put-row2 .kept .0, r1 .put-row .ensures .1, r1 .put-row .kept .0, r0 .put-heading .ensures .1, r0 .put-heading .kept .0), omega arith, omega (arith, s .pre .1 .members))
 
 slice-aggregate-put-row-5 : tie.Need-slice-aggregate-put-row-5
 slice-aggregate-put-row-5 c = search needs
@@ -62,7 +62,7 @@ put-row-requires-5 c κs =
     let r1 = r2 .before .before .before .before .before in
     let r0 = r1 .before .before .before .before .before in
     let s = r0 .before .before .before in
-    (omega (arith, s .pre .0, r4 .put-row4 .ensures .1, r4 .put-row4 .kept .0, r3 .put-row3 .ensures .1, r3 .put-row3 .kept .0, r2 .put-row2 .ensures .1, r2 .put-row2 .kept .0, r1 .put-row .ensures .1, r1 .put-row .kept .0, r0 .put-heading .ensures .1, r0 .put-heading .kept .0), omega arith, s .pre .1 .tranche2)
+    (omega (arith, s .pre .0, r4 .put-row4 .ensures .1, r4 .put-row4 .kept .0, r3 .put-row3 .ensures .1, r3 .put-row3 .kept .0, r2 .put-row2 .ensures .1, r2 .put-row2 .kept .0, r1 .put-row .ensures .1, r1 .put-row .kept .0, r0 .put-heading .ensures .1, r0 .put-heading .kept .0), omega arith, omega (arith, s .pre .1 .tranche2))
 
 slice-aggregate-put-row-6 : tie.Need-slice-aggregate-put-row-6
 slice-aggregate-put-row-6 c = search needs
@@ -76,7 +76,7 @@ put-row-requires-6 c κs =
     let r1 = r2 .before .before .before .before .before in
     let r0 = r1 .before .before .before .before .before in
     let s = r0 .before .before .before in
-    (omega (arith, s .pre .0, r5 .put-row5 .ensures .1, r5 .put-row5 .kept .0, r4 .put-row4 .ensures .1, r4 .put-row4 .kept .0, r3 .put-row3 .ensures .1, r3 .put-row3 .kept .0, r2 .put-row2 .ensures .1, r2 .put-row2 .kept .0, r1 .put-row .ensures .1, r1 .put-row .kept .0, r0 .put-heading .ensures .1, r0 .put-heading .kept .0), omega arith, s .pre .1 .calls)
+    (omega (arith, s .pre .0, r5 .put-row5 .ensures .1, r5 .put-row5 .kept .0, r4 .put-row4 .ensures .1, r4 .put-row4 .kept .0, r3 .put-row3 .ensures .1, r3 .put-row3 .kept .0, r2 .put-row2 .ensures .1, r2 .put-row2 .kept .0, r1 .put-row .ensures .1, r1 .put-row .kept .0, r0 .put-heading .ensures .1, r0 .put-heading .kept .0), omega arith, omega (arith, s .pre .1 .calls))
 
 slice-aggregate-put-row-7 : tie.Need-slice-aggregate-put-row-7
 slice-aggregate-put-row-7 c = search needs
@@ -91,7 +91,7 @@ put-row-requires-7 c κs =
     let r1 = r2 .before .before .before .before .before in
     let r0 = r1 .before .before .before .before .before in
     let s = r0 .before .before .before in
-    (omega (arith, s .pre .0, r6 .put-row6 .ensures .1, r6 .put-row6 .kept .0, r5 .put-row5 .ensures .1, r5 .put-row5 .kept .0, r4 .put-row4 .ensures .1, r4 .put-row4 .kept .0, r3 .put-row3 .ensures .1, r3 .put-row3 .kept .0, r2 .put-row2 .ensures .1, r2 .put-row2 .kept .0, r1 .put-row .ensures .1, r1 .put-row .kept .0, r0 .put-heading .ensures .1, r0 .put-heading .kept .0), omega arith, s .pre .1 .short)
+    (omega (arith, s .pre .0, r6 .put-row6 .ensures .1, r6 .put-row6 .kept .0, r5 .put-row5 .ensures .1, r5 .put-row5 .kept .0, r4 .put-row4 .ensures .1, r4 .put-row4 .kept .0, r3 .put-row3 .ensures .1, r3 .put-row3 .kept .0, r2 .put-row2 .ensures .1, r2 .put-row2 .kept .0, r1 .put-row .ensures .1, r1 .put-row .kept .0, r0 .put-heading .ensures .1, r0 .put-heading .kept .0), omega arith, omega (arith, s .pre .1 .short))
 
 same-length : tie.Need-same-length
 same-length c =

@@ -15,18 +15,15 @@ use Rattle.lists.proofs.Checks.{check-past, neither}
 use Rattle.waterfall.specs.declared.Allocation.{Allocation}
 use Rattle.buffers.specs.Buffer.{written, spaces}
 use Rattle.buffers.proofs.Written.{written-one, written-length, written-then, written-before, spaces-length, spaces-add}
+use Rattle.buffers.proofs.Putting.{put-then, put-behind}
 use Rattle.indian_digits.specs.IndianDigits.{indianOf}
 use Rattle.indian_digits.proofs.Theorems.{amount-fits}
-use Rattle.page.specs.Parts.{Within}
-use Rattle.page.specs.Page.{leftAligned, rightAligned, rowOf, heading, line, pageOf, pageLength, amountsOf, anyAbove, pageRefusal, pageLeft}
+use Rattle.page.specs.Parts.{Within, upperOf, lowerOf}
+use Rattle.page.specs.Page.{leftAligned, rightAligned, rowOf, heading, heading-reads, line, pageOf, pageLength, amountsOf, anyAbove, pageRefusal, pageLeft}
 
 pub line-length : (row : List ℕ) → length (line row) ≡ length row + 1
 unfolding line
 line-length row = length-append row (10 ∷ [])
-
-heading-length : length heading ≡ 40
-unfolding heading
-heading-length = refl
 
 pub right-length : (text : List ℕ) → length text ≤ 20 → length (rightAligned text) ≡ 20
 right-length text h =
@@ -46,10 +43,10 @@ pub row-line-length : (name : List ℕ) (n : ℕ) → length name ≤ 20 → n �
 row-line-length name n h k = omega (arith, line-length (rowOf name n), row-length name n h k)
 
 -- the heading as it is put
-pub heading-put : (p₀ p₁ : List ℕ) (r : ℕ) → 41 ≤ length p₀ → (r ≡ 0 + length heading) × (p₁ ≡ written p₀ 0 heading) → ((r + 1 ≡ 0 + length (line heading)) × (set p₁ r 10 ≡ written p₀ 0 (line heading))) × (r + 1 ≡ 41)
+pub heading-put : (p₀ p₁ : List ℕ) (r : ℕ) → 41 ≤ length p₀ → (r ≡ 0 + length heading) × (p₁ ≡ written p₀ 0 heading) → ((r + 1 ≡ length (line heading)) × (set p₁ r 10 ≡ written p₀ 0 (line heading))) × (r + 1 ≡ 41)
 unfolding line
 heading-put p₀ p₁ r h w =
-    let l : length heading ≡ 40 = heading-length in
+    let l = heading-reads .1 in
     let n : length p₁ ≡ length p₀ = ap length (w .1) ∙ written-length p₀ 0 heading (omega arith) in (
       (
         omega (arith, w .0, length-append heading (10 ∷ [])),
@@ -160,6 +157,11 @@ unfolding pageLeft check
 left-written a page w h =
     rw (printable a (length page) w h) (sym (written-front page (pageOf a) pageLength (page-length a w)))
 
+-- the two halves of a page
+halves : (a : Allocation) → upperOf a ++ lowerOf a ≡ pageOf a
+unfolding upperOf lowerOf pageOf
+halves a = simp append-assoc
+
 -- A page that is lent, and what the test of it answered: refused, or printed -----------
 
 module _ (a : Allocation) (page : List ℕ) {number : ℕ} (e : number ≡ pageRefusal a (length page)) where
@@ -170,5 +172,9 @@ module _ (a : Allocation) (page : List ℕ) {number : ℕ} (e : number ≡ pageR
   pub page-asks : number ≤ 0 → (pageLength ≤ length page) × Within a
   page-asks h = within a (length page) (omega arith)
 
-  pub page-printed : (left : List ℕ) → number ≤ 0 → left ≡ written page 0 (pageOf a) → (0 ≡ pageRefusal a (length page)) × (left ≡ pageLeft a page)
-  page-printed left h w = (omega arith, w ∙ sym (left-written a page (page-asks h .1) (page-asks h .0)))
+  pub page-printed : {half r : ℕ} {upper lower : List ℕ} → number ≤ 0 → (half ≡ length (upperOf a)) × (upper ≡ written page 0 (upperOf a)) → (r ≡ half + length (lowerOf a)) × (lower ≡ written upper half (lowerOf a))
+      → half ≡ 164 → (0 ≡ pageRefusal a (length page)) × (lower ≡ pageLeft a page)
+  page-printed h u l k =
+      let asks = page-asks h in
+      let whole = put-then page 0 (upperOf a) (lowerOf a) (put-behind page (upperOf a) u) l (omega (arith, asks .0)) in
+      (omega arith, whole .1 ∙ ap (written page 0) (halves a) ∙ sym (left-written a page (asks .1) (asks .0)))

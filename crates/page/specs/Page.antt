@@ -1,6 +1,6 @@
 -- Document 02, request 1: "A printed waterfall for the wall. Schools pin up each default as a page."
 use Prim.Native.Nat.{ℕ, _-_}
-use mathlib.Core.Path.{_≡_}
+use mathlib.Core.Path.{_≡_, refl}
 use mathlib.Core.Bool.{Bool, false, _||_}
 use mathlib.Core.List.{List, [], _∷_, _++_}
 use lib.Dec.{ltb}
@@ -27,6 +27,10 @@ rowOf name amount = leftAligned name ++ rightAligned (indianOf amount)
 -- "The heading row is the word LAYER, 24 spaces and Rs THOUSAND."
 unfoldable pub heading : List ℕ
 heading = ascii "LAYER                        Rs THOUSAND"
+
+pub heading-reads : (heading ≡ ascii "LAYER" ++ spaces 24 ++ ascii "Rs THOUSAND") × (length heading ≡ 40)
+unfolding heading
+heading-reads = (refl, refl)
 
 -- "Eight lines of 40 bytes, each followed by byte 10."
 unfoldable pub line : List ℕ → List ℕ

@@ -9,8 +9,8 @@ ghost use Prim.Native.Nat.{_+_, _≤_};
 ghost use lib.ListN.{length};
 ghost use Rattle.lists.specs.Limits.{printedLimit};
 ghost use Rattle.buffers.specs.Buffer.{written};
-ghost use Rattle.page.specs.Page.{amountsOf, anyAbove, heading, line, rowOf, pageOf, pageLength, pageRefusal, pageLeft};
-ghost use Rattle.page.specs.Parts.{Within};
+ghost use Rattle.page.specs.Page.{amountsOf, anyAbove, heading, line, rowOf, pageLength, pageRefusal, pageLeft};
+ghost use Rattle.page.specs.Parts.{Within, upperOf, lowerOf};
 
 // Eight lines of 40 bytes, and byte 10 behind each.
 const PAGE_LENGTH: usize = 328;
@@ -44,7 +44,7 @@ fn refusal(a: Allocation, size: usize) -> u8
 // The first line. Answers the place after it, as the others do.
 fn put_heading(page: &mut [u8]) -> usize
     requires { ⌜ 41 ≤ length (now page) ⌝ }
-    ensures { λ r. ⌜ (r ≡ 0 + length (line heading)) × (now (page .exit) ≡ written (now (page .entry)) 0 (line heading)) ⌝ }
+    ensures { λ r. ⌜ (r ≡ length (line heading)) × (now (page .exit) ≡ written (now (page .entry)) 0 (line heading)) ⌝ }
     ensures { λ r. ⌜ r ≡ 41 ⌝ }
 {
     let end = put_text(page, 0, b"LAYER                        Rs THOUSAND");
@@ -65,19 +65,27 @@ fn put_row(page: &mut [u8], at: usize, name: &[u8], amount: u64) -> usize
     at + 41
 }
 
-// The eight lines, at the front.
-fn put_lines(page: &mut [u8], a: Allocation)
+// The upper half of the page.
+fn put_upper(page: &mut [u8], a: Allocation) -> usize
     requires { ⌜ (pageLength ≤ length (now page)) × Within a ⌝ }
-    ensures { λ _. ⌜ now (page .exit) ≡ written (now (page .entry)) 0 (pageOf a) ⌝ }
+    ensures { λ r. ⌜ (r ≡ length (upperOf a)) × (now (page .exit) ≡ written (now (page .entry)) 0 (upperOf a)) ⌝ }
+    ensures { λ r. ⌜ r ≡ 164 ⌝ }
 {
-    let margin = put_heading(page);
-    let contribution = put_row(page, margin, b"MARGIN", a.margin);
-    let tranche1 = put_row(page, contribution, b"OWN FUND", a.contribution);
-    let members = put_row(page, tranche1, b"TRANCHE 1", a.tranche1);
-    let tranche2 = put_row(page, members, b"MEMBERS", a.members);
-    let calls = put_row(page, tranche2, b"TRANCHE 2", a.tranche2);
-    let short = put_row(page, calls, b"CALLS", a.calls);
-    put_row(page, short, b"SHORT", a.short);
+    let b = put_heading(page);
+    let c = put_row(page, b, b"MARGIN", a.margin);
+    let d = put_row(page, c, b"OWN FUND", a.contribution);
+    put_row(page, d, b"TRANCHE 1", a.tranche1)
+}
+
+// The lower half, from the place `at` on.
+fn put_lower(page: &mut [u8], at: usize, a: Allocation) -> usize
+    requires { ⌜ (at + 164 ≤ length (now page)) × Within a ⌝ }
+    ensures { λ r. ⌜ (r ≡ at + length (lowerOf a)) × (now (page .exit) ≡ written (now (page .entry)) at (lowerOf a)) ⌝ }
+{
+    let b = put_row(page, at, b"MEMBERS", a.members);
+    let c = put_row(page, b, b"TRANCHE 2", a.tranche2);
+    let d = put_row(page, c, b"CALLS", a.calls);
+    put_row(page, d, b"SHORT", a.short)
 }
 
 // The page of an answer, put into the front of a lent one. Answers 0, or 20 where it is refused, before anything is written.
@@ -89,6 +97,7 @@ pub fn print(answer: Allocation, page: &mut [u8]) -> u8
     if 0 < number {
         return number;
     }
-    put_lines(page, answer);
+    let half = put_upper(page, answer);
+    put_lower(page, half, answer);
     0
 }

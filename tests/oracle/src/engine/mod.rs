@@ -8,6 +8,8 @@ mod split;
 mod stress;
 mod waterfall;
 
+#[cfg(test)]
+pub use page::FIRST_PAGE;
 pub use page::{print_page, PAGE_BYTES};
 pub use register::{Call, Register};
 pub use sheet::{MEMBER_SHEET_BYTES, RECORD, STRESS_SHEET_BYTES};

@@ -66,6 +66,18 @@ fn take_digit(amount: &mut u64) -> u8 {
     b'0' + digit
 }
 
+/// The page of the first default of the drill examples.
+#[cfg(test)]
+pub const FIRST_PAGE: &str = "\
+    LAYER                        Rs THOUSAND\n\
+    MARGIN                            50,000\n\
+    OWN FUND                          20,000\n\
+    TRANCHE 1                         13,200\n\
+    MEMBERS                           16,800\n\
+    TRANCHE 2                              0\n\
+    CALLS                                  0\n\
+    SHORT                                  0\n";
+
 #[cfg(test)]
 mod tests {
     use super::*;
@@ -76,16 +88,6 @@ mod tests {
         layers: [50_000, 20_000, 13_200, 16_800, 0, 0],
         short: 0,
     };
-
-    const FIRST_PAGE: &str = "\
-        LAYER                        Rs THOUSAND\n\
-        MARGIN                            50,000\n\
-        OWN FUND                          20,000\n\
-        TRANCHE 1                         13,200\n\
-        MEMBERS                           16,800\n\
-        TRANCHE 2                              0\n\
-        CALLS                                  0\n\
-        SHORT                                  0\n";
 
     #[test]
     fn amounts() {

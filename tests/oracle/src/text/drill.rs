@@ -203,6 +203,7 @@ pub fn run_drill(
 #[cfg(test)]
 mod tests {
     use super::*;
+    use crate::engine::FIRST_PAGE;
 
     fn reading(line: &str) -> Reading {
         read_line(Line::Text(line.as_bytes()))
@@ -280,16 +281,6 @@ mod tests {
         let calls = "default 1 100000 2:1 3:2 4:2\npayment 2 5\n";
         assert_eq!(printed(calls), expected);
     }
-
-    const FIRST_PAGE: &str = "\
-        LAYER                        Rs THOUSAND\n\
-        MARGIN                            50,000\n\
-        OWN FUND                          20,000\n\
-        TRANCHE 1                         13,200\n\
-        MEMBERS                           16,800\n\
-        TRANCHE 2                              0\n\
-        CALLS                                  0\n\
-        SHORT                                  0\n";
 
     const SECOND_PAGE: &str = "\
         LAYER                        Rs THOUSAND\n\

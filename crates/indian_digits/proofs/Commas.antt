@@ -25,6 +25,14 @@ module _ (digit following : ℕ) {r : Bool} (e : r ≡ commaBefore following) wh
   unfolding digitOf check
   alone f = rw (sym e ∙ f)
 
+  -- the places that they take
+  module _ (end : ℕ) (h : length (digitOf digit following) ≤ end) where
+    pub room-for-two : r ≡ true → 2 ≤ end
+    room-for-two t = omega (arith, ap length (with-comma t))
+
+    pub room-for-one : r ≡ false → 1 ≤ end
+    room-for-one f = omega (arith, ap length (alone f))
+
 -- how they are put: where they begin, and the buffer
 module _ (out s : List ℕ) (end a b : ℕ) (fits : end ≤ length out) where
   pub put-one : s ≡ a ∷ [] → length s ≤ end → (end - 1 + length s ≡ end) × (set out (end - 1) a ≡ written out (end - 1) s)

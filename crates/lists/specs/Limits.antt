@@ -1,4 +1,4 @@
--- The limits of document 01, each once. Money is whole thousands of rupees.
+-- The limits of document 01 and of the requests of document 02, each once. Money is whole thousands of rupees.
 use Prim.Native.Nat.{ℕ}
 
 -- "Members are numbered 1 to 64."

@@ -1,4 +1,5 @@
-// The limits of document 01 as the code names them. The contracts name them by specs/Limits, so a number that differs is refused.
+// The limits of document 01 and of the requests of document 02 as the code names them. The contracts name them by specs/Limits, so a number that differs
+// is refused.
 // Money is whole thousands of rupees.
 pub mod numbers;
 

@@ -1,8 +1,7 @@
 -- `put_digit` meets its contract: with a comma behind the digit, and without one.
-use mathlib.Core.Path.{ap}
 use native.Mathlib.Omega.{arith}
-use lib.ListN.{length, length-set}
-use Rattle.indian_digits.proofs.Commas.{with-comma, alone, put-one, put-pair}
+use lib.ListN.{length-set}
+use Rattle.indian_digits.proofs.Commas.{with-comma, alone, room-for-two, room-for-one, put-one, put-pair}
 use borrow.Author.Needs.{needs}
 use Rattle.indian_digits.proofs.put_digit.Statement.{statement}
 use Rattle.indian_digits.proofs.put_digit.Tie as tie
@@ -12,31 +11,31 @@ comma-before-requires c κs = search needs
 
 sub-out : tie.Need-sub-out
 sub-out c =
-    let s = c .before .before .before in
-    omega (arith, ap length (with-comma (s .args .digit) (s .args .following) (c .before .comma-before .ensures) (c .if1 .taken)), s .pre .0)
+    let room = room-for-two _ _ (c .before .comma-before .ensures) _ (c .before .before .before .pre .0) (c .if1 .taken) in
+    search needs
 
 slice-write-out : tie.Need-slice-write-out
 slice-write-out c =
-    let s = c .before .before .before in
-    omega (arith, ap length (with-comma (s .args .digit) (s .args .following) (c .before .comma-before .ensures) (c .if1 .taken)), s .pre)
+    let room = room-for-two _ _ (c .before .comma-before .ensures) _ (c .before .before .before .pre .0) (c .if1 .taken) in
+    search needs
 
 add-out : tie.Need-add-out
 add-out c = search needs
 
 sub-out-2 : tie.Need-sub-out-2
 sub-out-2 c =
-    let s = c .before .before .before in
-    omega (arith, ap length (with-comma (s .args .digit) (s .args .following) (c .before .comma-before .ensures) (c .if1 .taken)), s .pre .0)
+    let room = room-for-two _ _ (c .before .comma-before .ensures) _ (c .before .before .before .pre .0) (c .if1 .taken) in
+    search needs
 
 slice-write-out-2 : tie.Need-slice-write-out-2
 slice-write-out-2 c =
-    let s = c .before .before .before in
-    simp length-set (omega (arith, ap length (with-comma (s .args .digit) (s .args .following) (c .before .comma-before .ensures) (c .if1 .taken)), s .pre))
+    let room = room-for-two _ _ (c .before .comma-before .ensures) _ (c .before .before .before .pre .0) (c .if1 .taken) in
+    simp length-set (omega (arith, c .before .before .before .pre .1))
 
 sub-result : tie.Need-sub-result
 sub-result c =
-    let s = c .before .before .before in
-    omega (arith, ap length (with-comma (s .args .digit) (s .args .following) (c .before .comma-before .ensures) (c .if1 .taken)), s .pre .0)
+    let room = room-for-two _ _ (c .before .comma-before .ensures) _ (c .before .before .before .pre .0) (c .if1 .taken) in
+    search needs
 
 same-length : tie.Need-same-length
 same-length c = search needs
@@ -51,18 +50,18 @@ add-out-2 c = search needs
 
 sub-out-3 : tie.Need-sub-out-3
 sub-out-3 c =
-    let s = c .before .before .before in
-    omega (arith, ap length (alone (s .args .digit) (s .args .following) (c .before .comma-before .ensures) (c .if1 .left)), s .pre .0)
+    let room = room-for-one _ _ (c .before .comma-before .ensures) _ (c .before .before .before .pre .0) (c .if1 .left) in
+    search needs
 
 slice-write-out-3 : tie.Need-slice-write-out-3
 slice-write-out-3 c =
-    let s = c .before .before .before in
-    omega (arith, ap length (alone (s .args .digit) (s .args .following) (c .before .comma-before .ensures) (c .if1 .left)), s .pre)
+    let room = room-for-one _ _ (c .before .comma-before .ensures) _ (c .before .before .before .pre .0) (c .if1 .left) in
+    search needs
 
 sub-result-2 : tie.Need-sub-result-2
 sub-result-2 c =
-    let s = c .before .before .before in
-    omega (arith, ap length (alone (s .args .digit) (s .args .following) (c .before .comma-before .ensures) (c .if1 .left)), s .pre .0)
+    let room = room-for-one _ _ (c .before .comma-before .ensures) _ (c .before .before .before .pre .0) (c .if1 .left) in
+    search needs
 
 same-length-2 : tie.Need-same-length-2
 same-length-2 c = search needs

@@ -41,6 +41,11 @@ written-none out at = rw (append-nil, add-zero) (take-append-drop at out)
 pub written-cons : (out s : List ℕ) (at b : ℕ) → at < length out → written (set out at b) (at + 1) s ≡ written out at (b ∷ s)
 written-cons out s at b h = rw (written-one out at b h) (written-more out at (b ∷ []) (omega arith) s)
 
+-- a text at the front
+pub written-front : (out s : List ℕ) (n : ℕ) → length s ≡ n → written out 0 s ≡ s ++ drop n out
+unfolding written
+written-front out s n e = rw (zero-add, e)
+
 -- a text in front of one that was written
 pub written-before : (out s t : List ℕ) (at : ℕ) → at + length s + length t ≤ length out → written (written out (at + length s) t) at s ≡ written out at (s ++ t)
 unfolding written
@@ -73,10 +78,6 @@ pub spaces-length : (n : ℕ) → length (spaces n) ≡ n
 spaces-length zero = refl
 spaces-length (suc n) = ap suc (spaces-length n)
 
-spaces-more : (n : ℕ) → spaces n ++ (32 ∷ []) ≡ spaces (suc n)
-spaces-more zero = refl
-spaces-more (suc n) = ap (λ (s : List ℕ). 32 ∷ s) (spaces-more n)
-
 pub spaces-add : (m n : ℕ) → spaces (m + n) ≡ spaces m ++ spaces n
 spaces-add zero n = ap spaces (zero-add n)
 spaces-add (suc m) n = ap spaces (suc-add m n) ∙ ap (λ (s : List ℕ). 32 ∷ s) (spaces-add m n)
@@ -90,6 +91,6 @@ pub space-on : (out o : List ℕ) (from i : ℕ) → from ≤ i → i < length o
 space-on out o from i h k e =
     let l = spaces-length (i - from) in
     let n : length o ≡ length out = ap length e ∙ written-length out from (spaces (i - from)) (omega arith) in
-    let m : suc (i - from) ≡ i + 1 - from = omega arith in
+    let m : i - from + 1 ≡ i + 1 - from = omega arith in
     written-then out from i (spaces (i - from)) (32 ∷ []) e (written-one o i 32 (omega arith)) (omega arith) (omega arith)
-    ∙ ap (written out from) (spaces-more (i - from) ∙ ap spaces m)
+    ∙ ap (written out from) (sym (spaces-add (i - from) 1) ∙ ap spaces m)

@@ -35,11 +35,11 @@ module _ (digit following : ℕ) {r : Bool} (e : r ≡ commaBefore following) wh
 
 -- how they are put: where they begin, and the buffer
 module _ (out s : List ℕ) (end a b : ℕ) (fits : end ≤ length out) where
-  pub put-one : s ≡ a ∷ [] → length s ≤ end → (end - 1 + length s ≡ end) × (set out (end - 1) a ≡ written out (end - 1) s)
-  put-one e h = rw e (omega (arith, ap length e), written-one out (end - 1) a (omega (arith, ap length e)))
+  pub one-put : s ≡ a ∷ [] → length s ≤ end → (end - 1 + length s ≡ end) × (set out (end - 1) a ≡ written out (end - 1) s)
+  one-put e h = rw e (omega (arith, ap length e), written-one out (end - 1) a (omega (arith, ap length e)))
 
-  pub put-pair : s ≡ a ∷ b ∷ [] → length s ≤ end → (end - 2 + length s ≡ end) × (set (set out (end - 1) b) (end - 2) a ≡ written out (end - 2) s)
-  put-pair e h =
+  pub two-put : s ≡ a ∷ b ∷ [] → length s ≤ end → (end - 2 + length s ≡ end) × (set (set out (end - 1) b) (end - 2) a ≡ written out (end - 2) s)
+  two-put e h =
       let l : length s ≡ 2 = ap length e in
       let p : end - 1 ≡ end - 2 + 1 = omega arith in
       rw e (

@@ -1,6 +1,5 @@
 -- Document 02, request 1: an amount "with Indian commas (2,55,000; zero is 0)".
 use Prim.Native.Nat.{ℕ, _%_}
-use mathlib.Core.Path.{_≡_, refl}
 use mathlib.Core.Bool.{Bool, _&&_}
 use mathlib.Core.List.{List, [], _∷_, _++_}
 use lib.Dec.{leb, eqb}

@@ -1,20 +1,19 @@
--- Laws of a page's rows: their lengths, and how they are put.
+-- Laws of a page: its rows, how long they are and how they are put; the amounts that it prints; what is refused, and what is left.
 use Prim.Native.Nat.{ℕ, _+_, _-_, _≤_, _<_}
 use mathlib.Core.Path.{_≡_, refl, sym, ap, _∙_}
 use mathlib.Core.Bool.{Bool, true, false}
 use mathlib.Core.List.{List, [], _∷_, _++_, append-assoc}
-use native.Mathlib.Nat.{zero-add}
 use native.Mathlib.Omega.{arith}
 use borrow.Author.Tests.{ltb-false, le-ltb, lt-ltb}
 use lib.Dec.{ltb}
-use lib.ListN.{length, drop, set, length-append}
+use lib.ListN.{length, set, length-append}
 use Rattle.lists.specs.Limits.{printedLimit}
 use Rattle.lists.specs.Checks.{check}
 use Rattle.lists.specs.Texts.{ascii}
 use Rattle.lists.proofs.Checks.{check-past, neither}
 use Rattle.waterfall.specs.declared.Allocation.{Allocation}
 use Rattle.buffers.specs.Buffer.{written, spaces}
-use Rattle.buffers.proofs.Written.{written-one, written-length, written-then, written-before, spaces-length, spaces-add}
+use Rattle.buffers.proofs.Written.{written-one, written-length, written-then, written-front, written-before, spaces-length, spaces-add}
 use Rattle.buffers.proofs.Putting.{put-then, put-behind}
 use Rattle.indian_digits.specs.IndianDigits.{indianOf}
 use Rattle.indian_digits.proofs.Theorems.{amount-fits}
@@ -85,11 +84,6 @@ module _ (p₀ p₁ p₂ p₃ name : List ℕ) (at n begin behind : ℕ) (fits :
       let r : length (leftAligned name ++ rightAligned (indianOf n)) ≡ 40 = row-length name n short small in
       let n₃ : length p₃ ≡ length p₀ = ap length row ∙ written-length p₀ at _ (omega arith) in
       written-then p₀ at (at + 40) _ (10 ∷ []) row (written-one p₃ (at + 40) 10 (omega arith)) (omega arith) (omega arith)
-
--- a whole page in front of what stands behind it
-pub written-front : (out s : List ℕ) (n : ℕ) → length s ≡ n → written out 0 s ≡ s ++ drop n out
-unfolding written
-written-front out s n e = rw (zero-add, e)
 
 -- the amounts of an answer that is not refused
 one-within : (n : ℕ) (others : List ℕ) → anyAbove printedLimit (n ∷ others) ≡ false → (n ≤ printedLimit) × (anyAbove printedLimit others ≡ false)

@@ -1,17 +1,13 @@
 -- "No two default answers with different layers or shortfalls may print alike." And every answer can be printed.
 use Prim.Native.Nat.{ℕ, zero, suc, _-_, _≤_}
 use mathlib.Core.Path.{_≡_, refl, sym, ap, _∙_}
-use mathlib.Core.Bool.{false}
 use mathlib.Core.List.{List, [], _∷_, _++_}
 use native.Mathlib.Omega.{arith}
-use borrow.Author.Tests.{ltb-false, le-ltb}
-use lib.Dec.{ltb}
 use lib.ListN.{length, take, drop}
 use lib.Seq.{take-at}
 use Rattle.lists.specs.Limits.{amountLimit, printedLimit}
 use Rattle.lists.specs.Checks.{check}
 use Rattle.lists.specs.Texts.{ascii}
-use Rattle.lists.proofs.Checks.{check-past, check-false, neither}
 use Rattle.lists.proofs.Cases.{append-apart}
 use Rattle.buffers.specs.Buffer.{spaces}
 use Rattle.numbers.specs.Numbers.{readOf}
@@ -26,7 +22,7 @@ use Rattle.waterfall.proofs.Default.{placed}
 use Rattle.waterfall.specs.declared.Allocation.{Allocation}
 use Rattle.waterfall.specs.declared.Register.{Register}
 use Rattle.page.specs.Parts.{Within}
-use Rattle.page.specs.Page.{leftAligned, rightAligned, rowOf, heading, line, pageOf, pageLength, amountsOf, anyAbove, pageRefusal, pageLeft, PrintAlike}
+use Rattle.page.specs.Page.{leftAligned, rightAligned, rowOf, heading, line, pageOf, pageLength, amountsOf, pageRefusal, pageLeft, PrintAlike}
 use Rattle.page.proofs.Rows.{right-length, row-line-length, page-length, within, printable}
 
 -- The law: a printed amount gives the number back -----------------------------------

@@ -1,7 +1,7 @@
 -- `put_digit` meets its contract: with a comma behind the digit, and without one.
 use native.Mathlib.Omega.{arith}
 use lib.ListN.{length-set}
-use Rattle.indian_digits.proofs.Commas.{with-comma, alone, room-for-two, room-for-one, put-one, put-pair}
+use Rattle.indian_digits.proofs.Commas.{with-comma, alone, room-for-two, room-for-one, one-put, two-put}
 use borrow.Author.Needs.{needs}
 use Rattle.indian_digits.proofs.put_digit.Statement.{statement}
 use Rattle.indian_digits.proofs.put_digit.Tie as tie
@@ -43,7 +43,7 @@ same-length c = search needs
 returns : tie.Need-returns
 returns c =
     let s = c .before .before .before in
-    put-pair _ _ _ _ _ (s .pre .1) (with-comma (s .args .digit) (s .args .following) (c .before .comma-before .ensures) (c .if1 .taken)) (s .pre .0)
+    two-put _ _ _ _ _ (s .pre .1) (with-comma (s .args .digit) (s .args .following) (c .before .comma-before .ensures) (c .if1 .taken)) (s .pre .0)
 
 add-out-2 : tie.Need-add-out-2
 add-out-2 c = search needs
@@ -69,7 +69,7 @@ same-length-2 c = search needs
 returns-2 : tie.Need-returns-2
 returns-2 c =
     let s = c .before .before .before in
-    put-one _ _ _ _ 0 (s .pre .1) (alone (s .args .digit) (s .args .following) (c .before .comma-before .ensures) (c .if1 .left)) (s .pre .0)
+    one-put _ _ _ _ 0 (s .pre .1) (alone (s .args .digit) (s .args .following) (c .before .comma-before .ensures) (c .if1 .left)) (s .pre .0)
 
 pub put-digit-spec : {M : Type 1} → statement M
 put-digit-spec =

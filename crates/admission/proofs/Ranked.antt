@@ -17,7 +17,7 @@ use Rattle.figures.specs.Figures.{live, liveIn}
 use Rattle.figures.proofs.Figures.{live-at}
 use Rattle.admission.specs.Admission.{misranked}
 
--- where no rank is refused, each rank that is read is 1 to 64
+-- where no rank is refused, each rank that is read is 1 to the limit
 pub ranks-read : (read : List Bool) (ranks : List ℕ) → misranked read ranks ≡ false → (k : ℕ) → k < length ranks → getD read k false ≡ true
     → (0 < getD ranks k 0) × (getD ranks k 0 ≤ rankLimit)
 unfolding misranked

@@ -1,9 +1,10 @@
 -- Document 01, "When the console says no": refusals 11 to 18, on the figures that they read.
 use Prim.Native.Nat.{ℕ, _+_}
-use mathlib.Core.Bool.{Bool, false, _||_, _&&_, not}
-use mathlib.Core.List.{List, [], _∷_}
+use mathlib.Core.Path.{_≡_, refl}
+use mathlib.Core.Bool.{Bool, true, false, _||_, _&&_, not}
+use mathlib.Core.List.{List, [], _∷_, map}
 use lib.Dec.{eqb, ltb}
-use lib.ListN.{length}
+use lib.ListN.{length, replicate}
 use Rattle.lists.specs.Checks.{check}
 use Rattle.lists.specs.Limits.{memberLimit, rankLimit, sumLimit}
 use Rattle.lists.specs.Sums.{total}
@@ -20,12 +21,19 @@ standing status member rest =
 abbrev pub unready : ℕ → ℕ → Bool
 unready ranks slip = not (eqb ranks memberLimit) || ltb slip (memberLimit + memberLimit)
 
--- 15. "A rank that is read is missing or outside 1 to 64.": "Only ranks of live members other than the defaulter are read." The missing
--- rank, 255, is outside too.
+-- 15. "A rank that is read is missing or outside 1 to 64.", a limit that document 02, request 2, lowers (`rankLimit`). "Only ranks of live members
+-- other than the defaulter are read." The missing rank, 255, is outside too.
 unfoldable pub misranked : List Bool → List ℕ → Bool
 misranked [] ranks = false
 misranked (b ∷ read) [] = false
 misranked (b ∷ read) (rank ∷ ranks) = (b && (ltb rank 1 || ltb rankLimit rank)) || misranked read ranks
+
+-- "24 is accepted and 25 refused" (document 02, request 2); a rank that is not read is anything
+limit-of-ranks : (misranked (true ∷ true ∷ []) (1 ∷ 24 ∷ []) ≡ false)
+    × (map (λ rank. misranked (true ∷ []) (rank ∷ [])) (25 ∷ 64 ∷ 65 ∷ 0 ∷ 255 ∷ []) ≡ replicate 5 true)
+    × (misranked (replicate 6 false) (24 ∷ 25 ∷ 64 ∷ 65 ∷ 0 ∷ 255 ∷ []) ≡ false)
+unfolding misranked
+limit-of-ranks = (refl, refl, refl)
 
 -- a default's: 11, 12, 13. "A loss is above 25,600,000,000.", 14, 15, then the rest. `slip` is how many numbers are lent.
 abbrev pub admission : List ℕ → ℕ → ℕ → List ℕ → ℕ → ℕ → ℕ

@@ -3,6 +3,7 @@
 pub mod fold;
 
 use crate::fold::fold;
+use lists::RANK_LIMIT;
 use rows::Row;
 use rows::put_row;
 use waterfall::Allocation;
@@ -18,6 +19,8 @@ ghost use Rattle.waterfall.specs.Register.{GivenBack};
 const OWN: u64 = 1_000_003;
 
 const DEFAULTER: u64 = 17;
+
+const RANKS: usize = RANK_LIMIT as usize;
 
 // 777,777 less than what layers 1 to 4 have.
 const IN_LAYER_4: u64 = 64_411_573;
@@ -63,9 +66,10 @@ fn fold_reply(sum: u64, reply: Reply) -> u64 {
     }
 }
 
-// The last charge and the last call stand for the slip.
-fn fold_slip(sum: u64, slip: &[u64; 128]) -> u64 {
-    fold(fold(sum, slip[63]), slip[127])
+// One member's charge and call stand for the slip, another's each turn.
+fn fold_slip(sum: u64, slip: &[u64; 128], turn: u64) -> u64 {
+    let place = (turn % 64) as usize;
+    fold(fold(sum, slip[place]), slip[place + 64])
 }
 
 // The loss rises a little with the turn, so that no turn is like the one before.
@@ -91,7 +95,7 @@ fn repeat(register: Register, loss: u64, ranks: &[u8; 64], turns: u64) -> u64
     while turn < turns {
         let outcome = once(register, loss, turn, ranks, &mut slip);
         let reply = outcome.reply;
-        sum = fold_slip(fold_reply(sum, reply), &slip);
+        sum = fold_slip(fold_reply(sum, reply), &slip, turn);
         turn += 1;
     }
     sum
@@ -111,11 +115,11 @@ fn accepted(register: Register, loss: u64, ranks: &[u8; 64]) -> bool
     }
 }
 
-// Member by member another rank.
-fn distinct_ranks() -> [u8; 64] {
+// The members over all the ranks, two or three of each.
+fn all_ranks() -> [u8; 64] {
     let mut ranks = [0u8; 64];
     for i in 0..64 {
-        ranks[i] = (i * 29 % 64) as u8 + 1;
+        ranks[i] = (i * 29 % RANKS) as u8 + 1;
     }
     ranks
 }
@@ -133,10 +137,10 @@ fn run(loss: u64, ranks: &[u8; 64], turns: u64) -> u64
     0
 }
 
-pub fn distinct(turns: u64) -> u64
+pub fn ranked(turns: u64) -> u64
     ensures { λ r. ⌜ ((turns ≡ 0) → (r ≡ 0)) ⌝ }
 {
-    let ranks = distinct_ranks();
+    let ranks = all_ranks();
     run(IN_LAYER_4, &ranks, turns)
 }
 
@@ -150,6 +154,6 @@ pub fn tied(turns: u64) -> u64
 pub fn calls(turns: u64) -> u64
     ensures { λ r. ⌜ ((turns ≡ 0) → (r ≡ 0)) ⌝ }
 {
-    let ranks = distinct_ranks();
+    let ranks = all_ranks();
     run(IN_LAYER_6, &ranks, turns)
 }

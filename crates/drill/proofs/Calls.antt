@@ -54,6 +54,7 @@ module _ (r : Register) (g : GivenBack r) (call : DrillCall) (ranks slip : List 
         stays-live = λ m s q. s;
         stays-in-default = λ m s. s;
         in-default = λ m loss q t. absurd (false≢true (sym no ∙ t));
+        ranked = λ m loss q t. absurd (false≢true (sym no ∙ t));
         ordered = λ m loss q t. absurd (false≢true (sym no ∙ t));
       }
 
@@ -85,6 +86,7 @@ module _ (r : Register) (g : GivenBack r) (call : DrillCall) (ranks slip : List 
         stays-live = λ m s q. ap (λ (xs : List ℕ). figure xs m) (stays .0) ∙ s;
         stays-in-default = λ m s. ap (λ (xs : List ℕ). figure xs m) (stays .0) ∙ s;
         in-default = λ m l q t. absurd (false≢true (sym other ∙ ap isDefault q));
+        ranked = λ m l q t. absurd (false≢true (sym other ∙ ap isDefault q));
         ordered = λ m l q t. absurd (false≢true (sym other ∙ ap isDefault q));
       }
 

@@ -21,7 +21,7 @@ use Rattle.admission.proofs.Admitted.{Admitted, admitted}
 use Rattle.waterfall.proofs.Default.{placed, margin-gives, contribution-gives, tranche1-gives, tranche2-gives, charges-within, left2, left3, left4, left5, left6}
 use Rattle.figures.proofs.Figures.{figure-same, figure-other, replaced, figure-plus, figure-le, by-member}
 use Rattle.waterfall.proofs.Given.{given-settled, length-calls, length-charged}
-use Rattle.drill.proofs.Order.{defaulter-known, settled-contribution, settled-other, defaulter-uncharged, empty1, empty2, empty3, empty4, empty5, empty6, by-rank}
+use Rattle.drill.proofs.Order.{defaulter-known, settled-contribution, settled-other, defaulter-uncharged, empty1, empty2, empty3, empty4, empty5, empty6, ranked-other, by-rank}
 use Rattle.drill.specs.Drill.{Event}
 use Rattle.drill.specs.declared.DrillCall.the-variants.{Default}
 use Rattle.drill.proofs.Laws.{StepLaws, Ordered}
@@ -162,6 +162,7 @@ module _ (r : Register) (g : GivenBack r) (member loss : ℕ) (ranks slip : List
         stays-live = λ m s q. figure-other (r .status) member m inDefault (k .0) (eqb-false member m q) ∙ s;
         stays-in-default = λ m s. replaced (λ b old new. old ≡ inDefault → new ≡ inDefault) (r .status) member m inDefault (k .0) (omega (arith, k, g .status-length)) (λ _. refl) (λ y e. e) s;
         in-default = λ m l q t. figure-same (r .status) member m inDefault (k .0) (omega (arith, k, g .status-length)) (sym (named q));
+        ranked = λ m l q t. rw (named q) (ranked-other r g member loss ranks slip a);
         ordered = λ m l q t. rw (named q) allocated-ordered;
       }
     where

@@ -1,7 +1,8 @@
 -- The laws of a single step, as one record: the theorem over a list is proved from these alone.
-use Prim.Native.Nat.{ℕ, _+_}
+use Prim.Native.Nat.{ℕ, _+_, _≤_, _<_}
 use mathlib.Core.Path.{_≡_}
 use mathlib.Core.Bool.{true, false, cond, _&&_}
+use Rattle.lists.specs.Limits.{rankLimit}
 use Rattle.figures.specs.Figures.{live, inDefault, figure}
 use Rattle.waterfall.specs.Register.{GivenBack}
 use Rattle.waterfall.specs.Reply.{layer1, layer2, layer3, layer4, layer5, layer6}
@@ -48,4 +49,5 @@ pub record StepLaws (r : Register) (e : Event) : Type 0 where
   pub stays-live : (m : ℕ) → figure (r .status) m ≡ live → (accepted e && defaults (e .call) m) ≡ false → figure (e .register .status) m ≡ live
   pub stays-in-default : (m : ℕ) → figure (r .status) m ≡ inDefault → figure (e .register .status) m ≡ inDefault
   pub in-default : (m loss : ℕ) → e .call ≡ Default m loss → accepted e ≡ true → figure (e .register .status) m ≡ inDefault
+  pub ranked : (m loss : ℕ) → e .call ≡ Default m loss → accepted e ≡ true → (n : ℕ) → Other r e m n → (0 < figure (e .ranks) n) × (figure (e .ranks) n ≤ rankLimit)
   pub ordered : (m loss : ℕ) → e .call ≡ Default m loss → accepted e ≡ true → Ordered r e m

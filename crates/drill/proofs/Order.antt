@@ -95,11 +95,17 @@ module _ (r : Register) (g : GivenBack r) (member loss : ℕ) (ranks slip : List
   room (suc k) o =
       kept (others (r .status) member) (minus (r .cap) (r .called)) k (marked (suc k) (o .0) (λ e. o .1 (sym e)) k refl) ∙ getD-minus (r .cap) (r .called) k
 
-  -- each weight has a rank from 1 to the limit
-  ranked : (k : ℕ) → 0 < getD (keep (others (r .status) member) (r .contribution)) k 0 → (0 < getD ranks k 0) × (getD ranks k 0 ≤ rankLimit)
-  ranked k h =
-      let m : getD (others (r .status) member) k false ≡ true = kept-mark (others (r .status) member) (r .contribution) k h in
+  -- each rank that is read is 1 to the limit: that of a mark, of another live member, of a weight
+  ranked-mark : (k : ℕ) → getD (others (r .status) member) k false ≡ true → (0 < getD ranks k 0) × (getD ranks k 0 ≤ rankLimit)
+  ranked-mark k m =
       ranks-read (others (r .status) member) ranks (a .well-ranked) k (omega (arith, mark-within (others (r .status) member) k m, length-others r g member, a .ranks-length)) m
+
+  pub ranked-other : (n : ℕ) → Other n → (0 < figure ranks n) × (figure ranks n ≤ rankLimit)
+  ranked-other zero o = absurd (omega (arith, o .0))
+  ranked-other (suc k) o = ranked-mark k (marked (suc k) (o .0) (λ e. o .1 (sym e)) k refl)
+
+  ranked : (k : ℕ) → 0 < getD (keep (others (r .status) member) (r .contribution)) k 0 → (0 < getD ranks k 0) × (getD ranks k 0 ≤ rankLimit)
+  ranked k h = ranked-mark k (kept-mark (others (r .status) member) (r .contribution) k h)
 
   -- layers that are empty -----------------------------------------------------------
 
@@ -140,12 +146,10 @@ module _ (r : Register) (g : GivenBack r) (member loss : ℕ) (ranks slip : List
   by-rank zero n p o h = absurd (omega arith)
   by-rank (suc i) zero p o h = refl
   by-rank (suc i) (suc j) p o h =
-      let m : getD (others (r .status) member) j false ≡ true = marked (suc j) (o .0) (λ e. o .1 (sym e)) j refl in
-      let q = ranks-read (others (r .status) member) ranks (a .well-ranked) j (omega (arith, mark-within (others (r .status) member) j m, length-others r g member, a .ranks-length)) m in
       omega (
         arith,
         settled-other (suc j) (λ e. o .1 (sym e)),
-        whole i j p h (q .1),
+        whole i j p h (ranked-other (suc j) o .1),
         weight (suc j) o,
       )
     where

@@ -1,10 +1,11 @@
--- Statement 3, proved: for any register sheet, any G and any list of drill calls. Last, that a defaulter is so for good.
-use Prim.Native.Nat.{ℕ, _≤_}
+-- Statement 3, proved: for any register sheet, any G and any list of drill calls. Last, that an accepted default reads no larger rank than the limit, and that a defaulter is so for good.
+use Prim.Native.Nat.{ℕ, _≤_, _<_}
 use mathlib.Core.Path.{_≡_, ap, sym, subst, _∙_}
 use mathlib.Core.Bool.{true, not, _&&_}
 use mathlib.Core.List.{List, [], _∷_, _++_, append-assoc}
 use native.Mathlib.Omega.{arith}
 use borrow.Author.Tests.{not-true}
+use Rattle.lists.specs.Limits.{rankLimit}
 use Rattle.lists.proofs.Checks.{both}
 use Rattle.waterfall.specs.Opening.{openedOf}
 use Rattle.figures.specs.Figures.{live, inDefault, figure}
@@ -85,6 +86,15 @@ module _ (sheet : List ℕ) (g : ℕ) (steps : List Step) where
         order = ordered;
         caps = within-caps;
       }
+
+  -- "A default that reads a larger rank is now a refused call in every statement." (document 02, request 2): each rank that an accepted default
+  -- reads, those of the other live members as they are counted, is 1 to the limit
+  pub ranks-within : (before : List Event) (e : Event) (after : List Event) → events ≡ before ++ e ∷ after
+      → (m loss : ℕ) → e .call ≡ Default m loss → accepted e ≡ true
+      → (n : ℕ) → OtherLive sheet g before m n → (0 < figure (e .ranks) n) × (figure (e .ranks) n ≤ rankLimit)
+  ranks-within before e after q m loss c t n o =
+      let r : Run opened (before ++ e ∷ after) = run-of _ q in
+      next-laws before opened e after r .ranked m loss c t n (counted-live before (e ∷ after) r n (o .0), o .1)
 
   -- "The defaulter is then in default for good.": whom an accepted default names is in default in the register last given back
   pub in-default-for-good : (before : List Event) (e : Event) (after : List Event) → events ≡ before ++ e ∷ after

@@ -5,9 +5,9 @@ use Prim.Native.Nat.{ℕ}
 abbrev pub memberLimit : ℕ
 memberLimit = 64
 
--- "1 is most senior, 64 most junior"
+-- the most junior rank: "The limit of 64 becomes 24 in refusal 15" (document 02, request 2)
 abbrev pub rankLimit : ℕ
-rankLimit = 64
+rankLimit = 24
 
 -- "An amount is 0 to 400,000,000"
 abbrev pub amountLimit : ℕ

@@ -1,14 +1,16 @@
 //! What the benchmarks repeat. Each case gives a checksum of its answers, which the engine's must equal.
 
 use crate::bench_files::{register_sheet, OWN};
-use crate::engine::{print_page, size, DefaultAnswer, Register, DEFAULT_SLIP, MEMBERS, PAGE_BYTES};
+use crate::engine::{
+    print_page, size, DefaultAnswer, Register, DEFAULT_SLIP, MEMBERS, MOST_JUNIOR, PAGE_BYTES,
+};
 use std::ffi::OsString;
 use std::fs;
 use std::hint::black_box;
 use std::io;
 
 /// The cases by name; `sizing` reads its two sheets from files.
-pub const CASES: &str = "distinct, tied, calls, page, sizing STRESS SHARES";
+pub const CASES: &str = "ranked, tied, calls, page, sizing STRESS SHARES";
 
 const DEFAULTER: u64 = 17;
 const PREVAILING: u64 = 70_000_000;
@@ -17,7 +19,7 @@ const AVAILABLE: u64 = 5_000_000;
 /// Runs one case so many times and gives the checksum; none where there is no such case.
 pub fn bench(case: &str, repetitions: u64, files: &[OsString]) -> io::Result<Option<u64>> {
     Ok(match (case, files) {
-        ("distinct" | "tied" | "calls", []) => {
+        ("ranked" | "tied" | "calls", []) => {
             Some(repeat_default(&DefaultCase::named(case), repetitions))
         }
         ("page", []) => Some(repeat_page(repetitions)),
@@ -42,7 +44,9 @@ struct DefaultCase {
 }
 
 impl DefaultCase {
-    /// `distinct` and `tied` end inside layer 4, `calls` inside layer 6.
+    /// `ranked` and `tied` end inside layer 4, `calls` inside layer 6.
+    ///
+    /// `ranked` and `calls` spread the members over all ranks.
     fn named(case: &str) -> Self {
         let register = Register::open(&register_sheet(), OWN).expect("a good sheet");
         let place = DEFAULTER as usize - 1;
@@ -57,7 +61,7 @@ impl DefaultCase {
         let mut ranks = [9; MEMBERS];
         if case != "tied" {
             for (place, rank) in ranks.iter_mut().enumerate() {
-                *rank = (place * 29 % MEMBERS) as u8 + 1;
+                *rank = (place * 29 % MOST_JUNIOR as usize) as u8 + 1;
             }
         }
         DefaultCase {
@@ -68,12 +72,12 @@ impl DefaultCase {
     }
 }
 
-fn fold_default(sum: u64, answer: &DefaultAnswer, slip: &[u64; DEFAULT_SLIP]) -> u64 {
+/// One member's charge and call stand for the slip, another's each turn, so that folding stays cheap.
+fn fold_default(sum: u64, answer: &DefaultAnswer, slip: &[u64; DEFAULT_SLIP], place: usize) -> u64 {
     let sum = answer.layers.iter().fold(sum, |sum, &l| fold(sum, l));
     let sum = fold(fold(sum, answer.fallen), answer.short);
-    // One charge and one call stand for the slip, so that folding stays cheap.
     let slip = black_box(slip);
-    fold(fold(sum, slip[MEMBERS - 1]), slip[DEFAULT_SLIP - 1])
+    fold(fold(sum, slip[place]), slip[MEMBERS + place])
 }
 
 /// The loss rises a little with the turn, so that no turn is like the one before.
@@ -85,7 +89,7 @@ fn repeat_default(case: &DefaultCase, repetitions: u64) -> u64 {
             .default(DEFAULTER, case.loss + turn % 8, &case.ranks, &mut slip)
             .expect("a good default");
         black_box(&register);
-        fold_default(sum, &answer, &slip)
+        fold_default(sum, &answer, &slip, turn as usize % MEMBERS)
     })
 }
 
@@ -128,8 +132,20 @@ mod tests {
     /// The engine's program has these two losses as numbers.
     #[test]
     fn losses() {
-        assert_eq!(DefaultCase::named("distinct").loss, 64_411_573);
+        assert_eq!(DefaultCase::named("ranked").loss, 64_411_573);
         assert_eq!(DefaultCase::named("calls").loss, 82_012_632);
+    }
+
+    #[test]
+    fn ranks() {
+        for case in ["ranked", "calls"] {
+            let mut ranks = DefaultCase::named(case).ranks.to_vec();
+            assert_eq!(ranks[..6], [1, 6, 11, 16, 21, 2]);
+            ranks.sort_unstable();
+            ranks.dedup();
+            assert_eq!(ranks, Vec::from_iter(1..=24));
+        }
+        assert_eq!(DefaultCase::named("tied").ranks, [9; 64]);
     }
 
     #[test]
@@ -143,7 +159,7 @@ mod tests {
                 .layers
                 .map(|layer| layer > 0)
         };
-        for case in ["distinct", "tied"] {
+        for case in ["ranked", "tied"] {
             assert_eq!(layers(case), [true, true, true, true, false, false]);
         }
         assert_eq!(layers("calls"), [true; 6]);

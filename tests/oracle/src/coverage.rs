@@ -1,5 +1,6 @@
 //! What the expected answers reached, for a reader who wants to know how deep a run went.
 
+use crate::engine::MOST_JUNIOR;
 use crate::ledger::Tally;
 
 #[derive(Clone, Default)]
@@ -41,6 +42,8 @@ impl Coverage {
         self.tally.payments += tally.payments;
         self.tally.replenishments += tally.replenishments;
         self.tally.closes += tally.closes;
+        self.tally.most_junior += tally.most_junior;
+        self.tally.too_junior += tally.too_junior;
     }
 
     pub fn merge(&mut self, other: &Coverage) {
@@ -91,6 +94,12 @@ impl Coverage {
             "accepted: {} openings, {} defaults, {} payments, {} replenishments, {} closes, {} sizings",
             self.openings, t.defaults, t.payments, t.replenishments, t.closes, self.sizings
         );
+        println!(
+            "defaults that read rank {MOST_JUNIOR}, accepted: {}; rank {}, refused 15: {}",
+            t.most_junior,
+            MOST_JUNIOR + 1,
+            t.too_junior
+        );
         println!("unreadable lines: {}", self.unreadable);
         println!("pages: {}, no page: {}", self.pages, self.no_pages);
     }
@@ -109,11 +118,15 @@ fn remark(number: usize) -> &'static str {
 #[cfg(test)]
 mod tests {
     use super::*;
-    use crate::generate::{drill, sizing};
+    use crate::generate::{drill, sizing, DrillCase};
+    use crate::ledger::count;
     use crate::text::{run_drill, run_sizing};
 
     fn drilled(seed: u64) -> String {
-        let case = drill(seed);
+        printed(&drill(seed))
+    }
+
+    fn printed(case: &DrillCase) -> String {
         let mut out = Vec::new();
         run_drill(&case.sheet, case.own, &case.calls[..], &mut out).unwrap();
         String::from_utf8(out).unwrap()
@@ -123,7 +136,10 @@ mod tests {
     fn the_generator_reaches_all_that_can_be_printed() {
         let mut coverage = Coverage::default();
         for seed in 0..1_000 {
-            coverage.add_output(&drilled(seed));
+            let case = drill(seed);
+            let printed = printed(&case);
+            coverage.add_output(&printed);
+            coverage.add_tally(count(&case, &printed).unwrap());
             let case = sizing(seed);
             let out = run_sizing(&case.stress, &case.shares, case.prevailing, case.available);
             coverage.add_output(&String::from_utf8(out).unwrap());
@@ -136,6 +152,7 @@ mod tests {
         assert!(coverage.shortfalls > 100 && coverage.fallen > 100);
         assert!(coverage.all_layers > 100 && coverage.sizings > 100);
         assert!(coverage.pages > 100 && coverage.no_pages > 100);
+        assert!(coverage.tally.most_junior > 100 && coverage.tally.too_junior > 50);
     }
 
     /// Before any default, straight after one and after refused ones, twice, and later.

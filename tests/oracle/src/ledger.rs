@@ -7,19 +7,23 @@
 mod page;
 
 use self::page::read_page;
-use crate::engine::{Call, MEMBERS, RECORD};
+use crate::engine::{Call, MEMBERS, MOST_JUNIOR, RECORD};
 use crate::generate::DrillCase;
 use crate::text::{read_line, Lines, Reading};
 use std::collections::BTreeMap;
 use std::iter::Peekable;
 
-/// How many calls of each kind were accepted.
+/// How many calls of each kind were accepted, and how many defaults read ranks about the limit.
 #[derive(Clone, Copy, Default)]
 pub struct Tally {
     pub defaults: u64,
     pub payments: u64,
     pub replenishments: u64,
     pub closes: u64,
+    /// Accepted defaults that read the most junior rank.
+    pub most_junior: u64,
+    /// Defaults refused with 15 that read the rank after it.
+    pub too_junior: u64,
 }
 
 /// A member: its sheet figures and what has been added up for it.
@@ -208,7 +212,8 @@ impl Ledger {
             Reading::Page => return self.show_page(printed),
             Reading::Call(call) => call,
         };
-        if printed.take_if::<1>("refused #").is_some() {
+        if let Some([number]) = printed.take_if::<1>("refused #") {
+            self.refused(&call, number);
             return Ok(());
         }
         ensure(self.awaiting.is_none(), || {
@@ -237,6 +242,23 @@ impl Ledger {
             }
         }
         printed.take::<0>("accepted").map(drop)
+    }
+
+    /// A refused call counts for nothing but the tally.
+    fn refused(&mut self, call: &Call, number: Sum) {
+        if let (Call::Default { member, ranks, .. }, 15) = (call, number) {
+            let read = self.ranks_read(*member, ranks);
+            self.tally.too_junior += read.contains(&(MOST_JUNIOR + 1)) as u64;
+        }
+    }
+
+    /// The ranks that a default of `member` reads: those of the other live members.
+    fn ranks_read(&self, member: u64, ranks: &[u8; MEMBERS]) -> Vec<u8> {
+        self.accounts
+            .iter()
+            .filter(|(&other, account)| account.live && other != member)
+            .map(|(&other, _)| ranks[other as usize - 1])
+            .collect()
     }
 
     fn account(&mut self, member: u64) -> Counted<&mut Account> {
@@ -272,6 +294,8 @@ impl Ledger {
         self.charges += placed;
         self.shortfalls += short;
         self.tally.defaults += 1;
+        let read = self.ranks_read(member, &ranks);
+        self.tally.most_junior += read.contains(&MOST_JUNIOR) as u64;
         ensure(loss as Sum + fallen == placed + short, || {
             format!("loss {loss} and fallen {fallen}, but {placed} placed and {short} short")
         })?;
@@ -386,6 +410,11 @@ impl Ledger {
         ensure(default.short == 0 || empty.iter().all(|&e| e), || {
             "a shortfall over a layer that is not empty".into()
         })?;
+        let read = self.ranks_read(default.member, &default.ranks);
+        let outside = read.iter().find(|rank| !(1..=MOST_JUNIOR).contains(rank));
+        ensure(outside.is_none(), || {
+            format!("accepted with ranks {read:?}, which go from 1 to {MOST_JUNIOR}")
+        })?;
         let rank = |member: u64| default.ranks[member as usize - 1];
         for &charged in &default.charged {
             let junior =
@@ -496,6 +525,48 @@ mod tests {
             let changed = changed.concat();
             assert!(count(&case, &changed).is_err(), "{changed}");
         }
+    }
+
+    /// Two defaults that charge no other member, so that they print alike for all good ranks.
+    fn with_rank(member: u64, rank: u8) -> DrillCase {
+        let ranks: String = (1..=5)
+            .map(|m| format!(" {m}:{}", if m == member { rank } else { 1 }))
+            .collect();
+        let calls = format!("default 1 5{ranks}\nregister\ndefault 2 5{ranks}\nregister\n");
+        DrillCase {
+            calls: calls.into(),
+            ..example()
+        }
+    }
+
+    /// Member 1 defaults first, 2 next, and 5 is not in the register.
+    #[test]
+    fn an_accepted_rank_outside_its_values_is_seen() {
+        let good = printed(&with_rank(1, 1));
+        for member in 1..=5 {
+            for rank in 0..=255 {
+                let bad = (2..=4).contains(&member) && !(1..=24).contains(&rank);
+                let seen = count(&with_rank(member, rank), &good).is_err();
+                assert_eq!(seen, bad, "member {member} with rank {rank}");
+            }
+        }
+    }
+
+    #[test]
+    fn ranks_about_the_limit_are_tallied() {
+        let tally = |member, rank| {
+            let case = with_rank(member, rank);
+            let tally = count(&case, &printed(&case)).unwrap();
+            (tally.defaults, tally.most_junior, tally.too_junior)
+        };
+        assert_eq!(tally(3, 23), (2, 0, 0));
+        assert_eq!(tally(3, 24), (2, 2, 0));
+        assert_eq!(tally(3, 25), (0, 0, 2));
+        assert_eq!(tally(3, 26), (0, 0, 0));
+        assert_eq!(tally(2, 24), (2, 1, 0));
+        assert_eq!(tally(2, 25), (1, 0, 1));
+        assert_eq!(tally(1, 24), (2, 0, 0));
+        assert_eq!(tally(5, 25), (2, 0, 0));
     }
 
     /// Where the pages of a drill are in what it prints.

@@ -24,7 +24,7 @@ loop-holds c =
     let s = c .before .before .before .before in
     let a = s .args in
     let t = c .before .before .rank-totals in (
-      c .next-rank .ensures .at-most,
+      omega (arith, c .next-rank .ensures .at-most),
       omega arith,
       going-next (a .sum) (a .weights .now) (a .ranks .now) (t .result) rankLimit (c .next-rank .result) (a .sum) (omega arith) (t .ensures) (c .next-rank .ensures) (going-start (a .sum) (a .weights .now) (a .ranks .now) (matched (a .weights .now) (a .ranks .now) (s .pre)) (s .pre .ranks-fit)),
     )

@@ -34,6 +34,7 @@ close
 replenishment 2 30001
 replenishment 2 30000
 default 2 1000000 4:
+default 2 1000000 4:25
   page # of member 3
 default 2 1000000 4:7
 register

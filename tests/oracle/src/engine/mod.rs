@@ -26,6 +26,8 @@ pub const MAX_SUM: u64 = 25_600_000_000;
 pub const LEAST_CONTRIBUTION: u32 = 10_000;
 /// How a sheet writes a missing amount.
 pub const MISSING: u32 = u32::MAX;
+/// The most junior rank; 1 is the most senior.
+pub const MOST_JUNIOR: u8 = 24;
 /// How ranks write a missing rank.
 pub const MISSING_RANK: u8 = 255;
 /// A default slip holds a layer 4 charge and then a call for each member.

@@ -2,7 +2,7 @@
 
 use super::register::Register;
 use super::split::Split;
-use super::{Places, DEFAULT_SLIP, MAX_SUM, MEMBERS};
+use super::{Places, DEFAULT_SLIP, MAX_SUM, MEMBERS, MOST_JUNIOR};
 
 /// The answer of an accepted default.
 #[derive(Clone, Copy, Debug, Default, PartialEq, Eq)]
@@ -14,16 +14,19 @@ pub struct DefaultAnswer {
 
 /// Members sorted by juniorisation rank: for each rank the bits of its members.
 struct Ranked {
-    members: [u64; MEMBERS],
-    ranks: u64,
+    members: [u64; MOST_JUNIOR as usize],
+    /// The bits of the ranks not yet charged.
+    ranks: u32,
 }
+
+const _: () = assert!(MOST_JUNIOR as u32 <= u32::BITS);
 
 impl Ranked {
     /// Reads the ranks of `who` only; refusal 15.
     #[inline]
     fn sort(who: Places, ranks: &[u8; MEMBERS]) -> Result<Self, u8> {
         let mut sorted = Ranked {
-            members: [0; MEMBERS],
+            members: [0; MOST_JUNIOR as usize],
             ranks: 0,
         };
         for place in who {
@@ -38,10 +41,7 @@ impl Ranked {
     /// Takes out the most junior rank not yet charged.
     #[inline]
     fn next(&mut self) -> Option<Places> {
-        if self.ranks == 0 {
-            return None;
-        }
-        let rank = 63 - self.ranks.leading_zeros();
+        let rank = self.ranks.checked_ilog2()?;
         self.ranks ^= 1 << rank;
         Some(Places(self.members[rank as usize]))
     }
@@ -198,6 +198,49 @@ mod tests {
         assert_eq!((register, slip), (before, [0; DEFAULT_SLIP]));
         let for_one = ranks(&[(1, 255), (2, 1), (3, 2), (4, 2)]);
         assert!(example().default(1, 100_000, &for_one, &mut slip).is_ok());
+    }
+
+    #[test]
+    fn ranks_stop_at_24() {
+        let with = |rank| ranks(&[(2, rank), (3, 2), (4, 2)]);
+        let mut slip = [7; 130];
+        let answer = example().default(1, 100_000, &with(24), &mut slip);
+        assert_eq!(answer.unwrap().layers[3], 16_800);
+        assert_eq!(slip[..4], [0, 16_800, 0, 0]);
+        for rank in [25, 64, 65, 0, 255] {
+            let (mut register, mut slip) = (example(), [7; 130]);
+            let answer = register.default(1, 100_000, &with(rank), &mut slip);
+            assert_eq!(answer, Err(15), "rank {rank}");
+            assert_eq!((register, slip), (example(), [7; 130]), "rank {rank}");
+        }
+    }
+
+    /// Member 1 is the defaulter and then in default; 5 and 64 are not in the register.
+    #[test]
+    fn ranks_that_are_not_read_are_anything() {
+        let mut slip = [0; DEFAULT_SLIP];
+        for rank in [24, 25, 64, 65, 0, 255] {
+            for member in [1, 5, 64] {
+                let ranks = ranks(&[(2, 1), (3, 2), (4, 2), (member, rank)]);
+                let mut register = example();
+                let first = register.default(1, 100_000, &ranks, &mut slip).unwrap();
+                assert_eq!(first.layers, [50_000, 20_000, 13_200, 16_800, 0, 0]);
+                let second = register.default(3, 60_000, &ranks, &mut slip).unwrap();
+                assert_eq!(second.layers, [0, 4_400, 0, 38_800, 8_800, 8_000]);
+            }
+        }
+    }
+
+    #[test]
+    fn all_others_of_64_may_share_rank_24() {
+        let sheet: Vec<u8> = (1..=64)
+            .flat_map(|member| member_record(member, [0, 10_000, 0]))
+            .collect();
+        let mut register = Register::open(&sheet, 0).unwrap();
+        let mut slip = [0; DEFAULT_SLIP];
+        let answer = register.default(1, 16_300, &[24; 64], &mut slip).unwrap();
+        assert_eq!(answer.layers, [0, 10_000, 0, 6_300, 0, 0]);
+        assert_eq!((slip[0], &slip[1..64]), (0, &[100; 63][..]));
     }
 
     #[test]

@@ -3,7 +3,7 @@
 use super::damage::damage_member_sheet;
 use super::sheets::register_sheet;
 use super::DrillCase;
-use crate::engine::{Places, Register, MAX_SUM};
+use crate::engine::{Places, Register, MAX_SUM, MISSING_RANK, MOST_JUNIOR};
 use crate::rng::Rng;
 use crate::text::{Console, Line};
 
@@ -359,9 +359,9 @@ impl Maker {
         } else {
             0
         };
-        let mut order: Vec<u64> = (1..=64).collect();
+        let mut order: Vec<u8> = (1..=MOST_JUNIOR).collect();
         self.rng.shuffle(&mut order);
-        let style = self.rng.below(5);
+        let style = self.rng.below(6);
         let spare = self.rng.pick(&[0, 0, 20, 100]);
         let mut words = Vec::new();
         for m in 1..=64 {
@@ -379,26 +379,31 @@ impl Maker {
         words
     }
 
-    /// Ranks all distinct, all tied, in a few ties, among the senior, or any.
-    fn good_rank(&mut self, style: u64, order: &[u64], member: u64) -> u64 {
+    /// Ranks spread over all, all tied, in a few ties, among the senior, at the ends, or any.
+    fn good_rank(&mut self, style: u64, order: &[u8], member: u64) -> u8 {
         match style {
-            0 => order[member as usize - 1],
+            0 => order[member as usize % order.len()],
             1 => order[0],
             2 => order[self.rng.below(3) as usize],
-            3 => self.rng.range(1, 8),
-            _ => self.rng.range(1, 64),
+            3 => self.rng.range(1, 8) as u8,
+            4 => self.rng.pick(&[1, 2, MOST_JUNIOR - 1, MOST_JUNIOR]),
+            _ => self.rng.pick(order),
         }
     }
 
     /// A rank that is read and must be refused.
     fn faulty_rank(&mut self, member: u64) -> Option<String> {
-        match self.rng.below(5) {
-            0 => None,
-            1 => Some(format!("{member}:")),
-            2 => Some(format!("{member}:0")),
-            3 => Some(format!("{member}:255")),
-            _ => Some(format!("{member}:{}", self.rng.range(65, 255))),
-        }
+        let above = MOST_JUNIOR + 1;
+        let rank = match self.rng.below(8) {
+            0 => return None,
+            1 => return Some(format!("{member}:")),
+            2 => 0,
+            3 => MISSING_RANK,
+            4 | 5 => above,
+            6 => self.rng.pick(&[64, 65]), // about the count of members
+            _ => self.rng.range(above as u64, 255) as u8,
+        };
+        Some(format!("{member}:{rank}"))
     }
 
     /// A rank that is not read: anything that fits a byte.

@@ -234,6 +234,23 @@ mod tests {
     }
 
     #[test]
+    fn ranks_that_fit_a_byte() {
+        let (member, loss) = (1, 5);
+        for rank in [0, 24, 25, 64, 65, 255] {
+            let mut ranks = [255; MEMBERS];
+            ranks[1] = rank;
+            assert_eq!(
+                reading(&format!("default 1 5 2:{rank}")),
+                Reading::Call(Call::Default {
+                    member,
+                    loss,
+                    ranks
+                })
+            );
+        }
+    }
+
+    #[test]
     fn unreadable_lines() {
         let lines = [
             "close now",
@@ -246,6 +263,7 @@ mod tests {
             "default 1",
             "default 1 5 2",
             "default 1 5 2:256",
+            "default 1 5 2:1000",
             "default 1 5 0:1",
             "default 1 5 65:1",
             "default 1 5 2:1 2:1",
@@ -279,6 +297,17 @@ mod tests {
               member 4 charged 11200 called 0\n\
             refused 16\n";
         let calls = "default 1 100000 2:1 3:2 4:2\npayment 2 5\n";
+        assert_eq!(printed(calls), expected);
+    }
+
+    #[test]
+    fn ranks_above_24() {
+        let calls = "default 1 5 2:25 3:2 4:2\ndefault 1 5 2:64 3:2 4:2\n\
+            default 1 5 2:255 3:2 4:2\ndefault 1 5 2:256 3:2 4:2\n\
+            default 1 5 2:24 3:2 4:2 1:25 5:64 64:255\n";
+        let expected = "opening accepted\n\
+            refused 15\nrefused 15\nrefused 15\nunreadable line 4\n\
+            accepted fallen 0 layers 5 0 0 0 0 0 short 0\n";
         assert_eq!(printed(calls), expected);
     }
 

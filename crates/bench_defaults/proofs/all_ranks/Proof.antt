@@ -1,8 +1,8 @@
--- `distinct_ranks` is safe and ends.
+-- `all_ranks` is safe and ends.
 use Prim.Native.Nat.{_-_, _≤_}
 use borrow.Author.Needs.{needs}
-use Rattle.bench_defaults.proofs.distinct_ranks.Statement.{statement}
-use Rattle.bench_defaults.proofs.distinct_ranks.Tie as tie
+use Rattle.bench_defaults.proofs.all_ranks.Statement.{statement}
+use Rattle.bench_defaults.proofs.all_ranks.Tie as tie
 
 abbrev Inv-loop : tie.InvT-loop
 Inv-loop ranks₀ i₀ ranks i = i ≤ 64
@@ -37,8 +37,8 @@ loop-again c = search needs
 returns : tie.Need-returns Inv-loop μ-loop
 returns c = search needs
 
-pub distinct-ranks-spec : {M : Type 1} → statement M
-distinct-ranks-spec =
+pub all-ranks-spec : {M : Type 1} → statement M
+all-ranks-spec =
     tie.close
     (tie.spec
     Inv-loop

@@ -5,7 +5,7 @@ use Prim.Native.Nat.{ℕ}
 abbrev pub memberLimit : ℕ
 memberLimit = 64
 
--- the most junior rank: "The limit of 64 becomes 24 in refusal 15" (document 02, request 2)
+-- "1 is most senior, 64 most junior"; document 02, request 2: "The limit of 64 becomes 24 in refusal 15"
 abbrev pub rankLimit : ℕ
 rankLimit = 24
 

@@ -6,7 +6,7 @@ pub mod numbers;
 // "Members are numbered 1 to 64."
 pub const MEMBER_LIMIT: usize = 64;
 
-// the most junior rank: "The limit of 64 becomes 24 in refusal 15" (document 02, request 2)
+// "1 is most senior, 64 most junior"; document 02, request 2: "The limit of 64 becomes 24 in refusal 15"
 pub const RANK_LIMIT: u8 = 24;
 
 // "An amount is 0 to 400,000,000"

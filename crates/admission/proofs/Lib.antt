@@ -2,3 +2,4 @@
 pub mod Passed
 pub mod Ranked
 pub mod Admitted
+pub mod EachPool

@@ -3,6 +3,7 @@
 pub mod fold;
 
 use crate::fold::fold;
+use admission::Pools;
 use lists::RANK_LIMIT;
 use rows::Row;
 use rows::put_row;
@@ -72,28 +73,29 @@ fn fold_slip(sum: u64, slip: &[u64; 128], turn: u64) -> u64 {
     fold(fold(sum, slip[place]), slip[place + 64])
 }
 
-// The loss rises a little with the turn, so that no turn is like the one before.
-fn once(
-    register: Register,
-    loss: u64,
-    turn: u64,
-    ranks: &[u8; 64],
-    slip: &mut [u64; 128],
-) -> Outcome
-    requires { ⌜ GivenBack register × (loss ≤ 100_000_000) ⌝ }
+// The first pool's loss rises a little with the turn, so that no turn is like the one before.
+fn once(register: Register, pools: Pools, turn: u64, ranks: &[u8], slip: &mut [u64; 128]) -> Outcome
+    requires { ⌜ GivenBack register × (pools .loss1 ≤ 100_000_000) ⌝ }
 {
-    declare(register, DEFAULTER, loss + turn % 8, ranks, slip)
+    let risen = Pools {
+        count: pools.count,
+        loss1: pools.loss1 + turn % 8,
+        loss2: pools.loss2,
+        loss3: pools.loss3,
+        loss4: pools.loss4,
+    };
+    declare(register, DEFAULTER, risen, ranks, slip)
 }
 
-fn repeat(register: Register, loss: u64, ranks: &[u8; 64], turns: u64) -> u64
-    requires { ⌜ GivenBack register × (loss ≤ 100_000_000) ⌝ }
+fn repeat(register: Register, pools: Pools, ranks: &[u8], turns: u64) -> u64
+    requires { ⌜ GivenBack register × (pools .loss1 ≤ 100_000_000) ⌝ }
     ensures { λ r. ⌜ ((turns ≡ 0) → (r ≡ 0)) ⌝ }
 {
     let mut slip = [0u64; 128];
     let mut sum: u64 = 0;
     let mut turn: u64 = 0;
     while turn < turns {
-        let outcome = once(register, loss, turn, ranks, &mut slip);
+        let outcome = once(register, pools, turn, ranks, &mut slip);
         let reply = outcome.reply;
         sum = fold_slip(fold_reply(sum, reply), &slip, turn);
         turn += 1;
@@ -102,11 +104,11 @@ fn repeat(register: Register, loss: u64, ranks: &[u8; 64], turns: u64) -> u64
 }
 
 // A default that is refused is worth no repetition.
-fn accepted(register: Register, loss: u64, ranks: &[u8; 64]) -> bool
-    requires { ⌜ GivenBack register × (loss ≤ 100_000_000) ⌝ }
+fn accepted(register: Register, pools: Pools, ranks: &[u8]) -> bool
+    requires { ⌜ GivenBack register × (pools .loss1 ≤ 100_000_000) ⌝ }
 {
     let mut slip = [0u64; 128];
-    let outcome = once(register, loss, 0, ranks, &mut slip);
+    let outcome = once(register, pools, 0, ranks, &mut slip);
     let reply = outcome.reply;
     match reply {
         Reply::Refused(_) => false,
@@ -115,24 +117,53 @@ fn accepted(register: Register, loss: u64, ranks: &[u8; 64]) -> bool
     }
 }
 
+// The rank that a number falls on, counted round and round.
+fn rank(number: usize) -> u8 {
+    (number % RANKS) as u8 + 1
+}
+
 // The members over all the ranks, two or three of each.
 fn all_ranks() -> [u8; 64] {
     let mut ranks = [0u8; 64];
     for i in 0..64 {
-        ranks[i] = (i * 29 % RANKS) as u8 + 1;
+        ranks[i] = rank(i * 29);
     }
     ranks
 }
 
-fn run(loss: u64, ranks: &[u8; 64], turns: u64) -> u64
-    requires { ⌜ loss ≤ 100_000_000 ⌝ }
+// In each of four pools by the member's number times the pool's.
+fn ranks_of_four() -> [u8; 256] {
+    let mut ranks = [0u8; 256];
+    for i in 0..64 {
+        ranks[i] = rank(i + 1);
+        ranks[64 + i] = rank(2 * (i + 1));
+        ranks[128 + i] = rank(3 * (i + 1));
+        ranks[192 + i] = rank(4 * (i + 1));
+    }
+    ranks
+}
+
+fn one_pool(loss: u64) -> Pools
+    ensures { λ r. ⌜ r .loss1 ≡ loss ⌝ }
+{
+    Pools {
+        count: 1,
+        loss1: loss,
+        loss2: 0,
+        loss3: 0,
+        loss4: 0,
+    }
+}
+
+fn run(pools: Pools, ranks: &[u8], turns: u64) -> u64
+    requires { ⌜ pools .loss1 ≤ 100_000_000 ⌝ }
     ensures { λ r. ⌜ ((turns ≡ 0) → (r ≡ 0)) ⌝ }
 {
     let sheet = register_sheet();
     let opened = open(&sheet, OWN);
     let register = opened.register;
-    if accepted(register, loss, ranks) {
-        return repeat(register, loss, ranks, turns);
+    if accepted(register, pools, ranks) {
+        return repeat(register, pools, ranks, turns);
     }
     0
 }
@@ -141,19 +172,37 @@ pub fn ranked(turns: u64) -> u64
     ensures { λ r. ⌜ ((turns ≡ 0) → (r ≡ 0)) ⌝ }
 {
     let ranks = all_ranks();
-    run(IN_LAYER_4, &ranks, turns)
+    run(one_pool(IN_LAYER_4), &ranks, turns)
 }
 
 pub fn tied(turns: u64) -> u64
     ensures { λ r. ⌜ ((turns ≡ 0) → (r ≡ 0)) ⌝ }
 {
     let ranks = [9u8; 64];
-    run(IN_LAYER_4, &ranks, turns)
+    run(one_pool(IN_LAYER_4), &ranks, turns)
 }
 
 pub fn calls(turns: u64) -> u64
     ensures { λ r. ⌜ ((turns ≡ 0) → (r ≡ 0)) ⌝ }
 {
     let ranks = all_ranks();
-    run(IN_LAYER_6, &ranks, turns)
+    run(one_pool(IN_LAYER_6), &ranks, turns)
+}
+
+// The loss of `ranked` in four pools: a half, a quarter and an eighth, rounded down, and the rest.
+pub fn pools(turns: u64) -> u64
+    ensures { λ r. ⌜ ((turns ≡ 0) → (r ≡ 0)) ⌝ }
+{
+    let ranks = ranks_of_four();
+    let half = IN_LAYER_4 / 2;
+    let quarter = IN_LAYER_4 / 4;
+    let eighth = IN_LAYER_4 / 8;
+    let pools = Pools {
+        count: 4,
+        loss1: half,
+        loss2: quarter,
+        loss3: eighth,
+        loss4: IN_LAYER_4 - half - quarter - eighth,
+    };
+    run(pools, &ranks, turns)
 }

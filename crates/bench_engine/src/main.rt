@@ -1,5 +1,5 @@
 // Runs one case of the benchmarks so many times and prints a checksum of the answers, which must equal the Rust implementation's.
-// The cases: ranked, tied, calls and page REPS, and sizing REPS STRESS SHARES.
+// The cases: ranked, tied, calls, pools and page REPS, and sizing REPS STRESS SHARES.
 mod pages;
 mod sheets_read;
 mod sizings;
@@ -11,7 +11,7 @@ use numbers::Number;
 fn usage() {
     io::write_all(
         STDERR_FILENO,
-        b"usage: bench_engine ranked|tied|calls|page REPS\n       bench_engine sizing REPS STRESS SHARES\n",
+        b"usage: bench_engine ranked|tied|calls|pools|page REPS\n       bench_engine sizing REPS STRESS SHARES\n",
     );
 }
 
@@ -39,6 +39,8 @@ fn run_plain(case: &[u8], turns: u64) {
         say(bench_defaults::tied(turns));
     } else if words::same(case, b"calls") {
         say(bench_defaults::calls(turns));
+    } else if words::same(case, b"pools") {
+        say(bench_defaults::pools(turns));
     } else if words::same(case, b"page") {
         say(pages::run(turns));
     } else {

@@ -24,7 +24,7 @@ Run r (e ∷ events) = StepLaws r e × Run (e .register) events
 
 -- so does the trace of any list of steps
 step-laws : (r : Register) → GivenBack r → (call : DrillCall) (ranks slip : List ℕ) → StepLaws r (eventOf r (record { call = call; ranks = ranks; slip = slip }))
-step-laws r g (Default member loss) ranks slip = default-laws r g member loss ranks slip
+step-laws r g (Default member pools) ranks slip = default-laws r g member pools ranks slip
 step-laws r g (Payment member amount) ranks slip = payment-laws r g member amount ranks slip
 step-laws r g (Replenishment member amount) ranks slip = replenishment-laws r g member amount ranks slip
 step-laws r g Close ranks slip = close-laws r g ranks slip

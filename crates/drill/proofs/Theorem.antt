@@ -9,6 +9,8 @@ use Rattle.lists.specs.Limits.{rankLimit}
 use Rattle.lists.proofs.Checks.{both}
 use Rattle.waterfall.specs.Opening.{openedOf}
 use Rattle.figures.specs.Figures.{live, inDefault, figure}
+use Rattle.admission.specs.Admission.{poolRanks}
+use Rattle.admission.specs.declared.Pools.{Pools}
 use Rattle.waterfall.specs.declared.Register.{Register}
 use Rattle.figures.proofs.Figures.{figure-le}
 use Rattle.waterfall.proofs.Entered.{given-opened}
@@ -47,11 +49,12 @@ module _ (sheet : List ℕ) (g : ℕ) (steps : List Step) where
   counted-cap before after r m = ap (λ (xs : List ℕ). figure xs m) (last-cap after before opened r) ∙ opens sheet g .cap m
 
   ordered : (before : List Event) (e : Event) (after : List Event) → events ≡ before ++ e ∷ after
-      → (m loss : ℕ) → e .call ≡ Default m loss → accepted e ≡ true → InOrder (OtherLive sheet g before m) (CalledToCap sheet g before e) e m
-  ordered before e after q m loss c t =
+      → (m : ℕ) (pools : Pools) → e .call ≡ Default m pools → accepted e ≡ true
+      → InOrder (OtherLive sheet g before m) (CalledToCap sheet g before e) (lastRegister opened before) e m pools
+  ordered before e after q m pools c t =
       let r : Run opened (before ++ e ∷ after) = run-of _ q in
       let r1 : Run opened ((before ++ e ∷ []) ++ after) = subst (Run opened) (sym (append-assoc before (e ∷ []) after)) r in
-      in-order e m
+      in-order (lastRegister opened before) e m pools
       (λ n l. (counted-live before (e ∷ after) r n (l .0), l .1))
       (λ n f.
       sym (counted-called (before ++ e ∷ []) after r1 n)
@@ -59,7 +62,7 @@ module _ (sheet : List ℕ) (g : ℕ) (steps : List Step) where
       ∙ f
       ∙ sym (ap (λ (x : Register). figure (x .cap) n) (last-of before opened e))
       ∙ counted-cap (before ++ e ∷ []) after r1 n)
-      (next-laws before opened e after r .ordered m loss c t)
+      (next-laws before opened e after r .ordered m pools c t)
 
   within-caps : (before after : List Event) → events ≡ before ++ after → (m : ℕ) → calledSince m 0 before ≤ sheetCap sheet g m
   within-caps before after q m =
@@ -88,18 +91,18 @@ module _ (sheet : List ℕ) (g : ℕ) (steps : List Step) where
       }
 
   -- "A default that reads a larger rank is now a refused call in every statement." (document 02, request 2): each rank that an accepted default
-  -- reads, those of the other live members as they are counted, is 1 to the limit
+  -- reads, those of the other live members as they are counted, is 1 to the limit, in each pool
   pub ranks-within : (before : List Event) (e : Event) (after : List Event) → events ≡ before ++ e ∷ after
-      → (m loss : ℕ) → e .call ≡ Default m loss → accepted e ≡ true
-      → (n : ℕ) → OtherLive sheet g before m n → (0 < figure (e .ranks) n) × (figure (e .ranks) n ≤ rankLimit)
-  ranks-within before e after q m loss c t n o =
+      → (m : ℕ) (pools : Pools) → e .call ≡ Default m pools → accepted e ≡ true
+      → (p : ℕ) → p < pools .count → (n : ℕ) → OtherLive sheet g before m n → (0 < figure (poolRanks (e .ranks) p) n) × (figure (poolRanks (e .ranks) p) n ≤ rankLimit)
+  ranks-within before e after q m pools c t p h n o =
       let r : Run opened (before ++ e ∷ after) = run-of _ q in
-      next-laws before opened e after r .ranked m loss c t n (counted-live before (e ∷ after) r n (o .0), o .1)
+      next-laws before opened e after r .ranked m pools c t p h n (counted-live before (e ∷ after) r n (o .0), o .1)
 
   -- "The defaulter is then in default for good.": whom an accepted default names is in default in the register last given back
   pub in-default-for-good : (before : List Event) (e : Event) (after : List Event) → events ≡ before ++ e ∷ after
-      → (m loss : ℕ) → e .call ≡ Default m loss → accepted e ≡ true → figure (lastRegister opened events .status) m ≡ inDefault
-  in-default-for-good before e after q m loss c t =
+      → (m : ℕ) (pools : Pools) → e .call ≡ Default m pools → accepted e ≡ true → figure (lastRegister opened events .status) m ≡ inDefault
+  in-default-for-good before e after q m pools c t =
       let r : Run opened (before ++ e ∷ after) = run-of _ q in
       ap (λ (es : List Event). figure (lastRegister opened es .status) m) q
-      ∙ ever-after m before opened e after r (next-laws before opened e after r .in-default m loss c t)
+      ∙ ever-after m before opened e after r (next-laws before opened e after r .in-default m pools c t)

@@ -12,6 +12,7 @@ use Rattle.sheets.specs.Members.{memberAt, firstAt, secondAt, thirdAt}
 use Rattle.sheets.specs.Sheet.{recordCount}
 use Rattle.waterfall.specs.Opening.{tranche1Of, tranche2Of, openedOf}
 use Rattle.figures.specs.Figures.{figure}
+use Rattle.waterfall.specs.Pools.{lossTogether}
 use Rattle.waterfall.specs.Reply.{Layer, replyNumber, fallenOf, layerOf, shortOf}
 use Rattle.waterfall.specs.declared.Register.{Register}
 use Rattle.drill.specs.Drill.{Event}
@@ -69,37 +70,37 @@ ifAccepted e n = cond (accepted e) n 0
 
 -- the figures of a call: what it hands over to whom
 abbrev pub lossHanded : DrillCall → ℕ
-lossHanded (Default member loss) = loss
+lossHanded (Default member pools) = lossTogether pools
 lossHanded (Payment member amount) = 0
 lossHanded (Replenishment member amount) = 0
 lossHanded Close = 0
 
 abbrev pub defaults : DrillCall → ℕ → Bool
-defaults (Default who loss) member = eqb who member
+defaults (Default who pools) member = eqb who member
 defaults (Payment who amount) member = false
 defaults (Replenishment who amount) member = false
 defaults Close member = false
 
 abbrev pub isDefault : DrillCall → Bool
-isDefault (Default who loss) = true
+isDefault (Default who pools) = true
 isDefault (Payment who amount) = false
 isDefault (Replenishment who amount) = false
 isDefault Close = false
 
 abbrev pub isClose : DrillCall → Bool
-isClose (Default who loss) = false
+isClose (Default who pools) = false
 isClose (Payment who amount) = false
 isClose (Replenishment who amount) = false
 isClose Close = true
 
 abbrev pub paidIn : DrillCall → ℕ → ℕ
-paidIn (Default who loss) member = 0
+paidIn (Default who pools) member = 0
 paidIn (Payment who amount) member = cond (eqb who member) amount 0
 paidIn (Replenishment who amount) member = 0
 paidIn Close member = 0
 
 abbrev pub replenishedIn : DrillCall → ℕ → ℕ
-replenishedIn (Default who loss) member = 0
+replenishedIn (Default who pools) member = 0
 replenishedIn (Payment who amount) member = 0
 replenishedIn (Replenishment who amount) member = cond (eqb who member) amount 0
 replenishedIn Close member = 0

@@ -1,7 +1,7 @@
 -- What a drill call does, and the trace of a list of calls.
 use Prim.Native.Nat.{ℕ}
 use mathlib.Core.List.{List, [], _∷_}
-use Rattle.waterfall.specs.Default.{allocationOf, defaultRefusal, defaultOf, defaultSlip}
+use Rattle.waterfall.specs.Pools.{pooledAllocation, pooledRefusal, pooledOf, pooledSlip}
 use Rattle.waterfall.specs.Calls.{paymentRefusal, paymentOf, replenishmentRefusal, replenishmentOf, closeRefusal, closeOf}
 use Rattle.waterfall.specs.Reply.{nothing}
 use Rattle.waterfall.specs.declared.Allocation.{Allocation}
@@ -13,27 +13,27 @@ use Rattle.drill.specs.declared.DrillCall.the-variants.{Default, Payment
 
 -- a call on a register, with ranks and a slip beside it
 abbrev pub appliedOf : Register → DrillCall → List ℕ → List ℕ → Outcome
-appliedOf r (Default member loss) ranks slip = defaultOf r member loss ranks slip
+appliedOf r (Default member pools) ranks slip = pooledOf r member pools ranks slip
 appliedOf r (Payment member amount) ranks slip = paymentOf r member amount
 appliedOf r (Replenishment member amount) ranks slip = replenishmentOf r member amount
 appliedOf r Close ranks slip = closeOf r
 
 -- the slip as the call leaves it: only a default writes one
 abbrev pub slipLeft : Register → DrillCall → List ℕ → List ℕ → List ℕ
-slipLeft r (Default member loss) ranks slip = defaultSlip r member loss ranks slip
+slipLeft r (Default member pools) ranks slip = pooledSlip r member pools ranks slip
 slipLeft r (Payment member amount) ranks slip = slip
 slipLeft r (Replenishment member amount) ranks slip = slip
 slipLeft r Close ranks slip = slip
 
 -- the number of its refusal, 0 where it is accepted, and what it allocates: only a default does
 abbrev pub refusalOf : Register → DrillCall → List ℕ → List ℕ → ℕ
-refusalOf r (Default member loss) ranks slip = defaultRefusal r member loss ranks slip
+refusalOf r (Default member pools) ranks slip = pooledRefusal r member pools ranks slip
 refusalOf r (Payment member amount) ranks slip = paymentRefusal r member amount
 refusalOf r (Replenishment member amount) ranks slip = replenishmentRefusal r member amount
 refusalOf r Close ranks slip = closeRefusal r
 
 abbrev pub allocatedBy : Register → DrillCall → List ℕ → Allocation
-allocatedBy r (Default member loss) ranks = allocationOf r member loss ranks
+allocatedBy r (Default member pools) ranks = pooledAllocation r member pools ranks
 allocatedBy r (Payment member amount) ranks = nothing
 allocatedBy r (Replenishment member amount) ranks = nothing
 allocatedBy r Close ranks = nothing

@@ -1,28 +1,29 @@
 // "The console keeps one register through the whole drill." Thin wrappers take the register by &mut and store what the call by value
 // hands back.
+use admission::Pools;
 use waterfall::Register;
 use waterfall::Reply;
 ghost use mathlib.Core.Path.{_≡_};
 ghost use Rattle.waterfall.specs.Register.{GivenBack};
-ghost use Rattle.waterfall.specs.Default.{allocationOf, defaultRefusal, defaultOf, defaultSlip};
+ghost use Rattle.waterfall.specs.Pools.{pooledAllocation, pooledRefusal, pooledOf, pooledSlip};
 ghost use Rattle.waterfall.specs.Calls.{paymentRefusal, paymentOf, replenishmentRefusal, replenishmentOf, closeRefusal, closeOf};
 ghost use Rattle.waterfall.specs.Reply.{Says, nothing};
 
 pub fn declare(
     register: &mut Register,
     member: u64,
-    loss: u64,
+    pools: Pools,
     ranks: &[u8],
     slip: &mut [u64],
 ) -> Reply
     requires { ⌜ GivenBack (now register) ⌝ }
-    ensures { λ r. ⌜ (r ≡ defaultOf (now (register .entry)) member loss (now (ranks .entry)) (now (slip .entry)) .reply)
-        × (now (register .exit) ≡ defaultOf (now (register .entry)) member loss (now (ranks .entry)) (now (slip .entry)) .register)
-        × (now (slip .exit) ≡ defaultSlip (now (register .entry)) member loss (now (ranks .entry)) (now (slip .entry)))
+    ensures { λ r. ⌜ (r ≡ pooledOf (now (register .entry)) member pools (now (ranks .entry)) (now (slip .entry)) .reply)
+        × (now (register .exit) ≡ pooledOf (now (register .entry)) member pools (now (ranks .entry)) (now (slip .entry)) .register)
+        × (now (slip .exit) ≡ pooledSlip (now (register .entry)) member pools (now (ranks .entry)) (now (slip .entry)))
         × GivenBack (now (register .exit))
-        × Says r (defaultRefusal (now (register .entry)) member loss (now (ranks .entry)) (now (slip .entry))) (allocationOf (now (register .entry)) member loss (now (ranks .entry))) ⌝ }
+        × Says r (pooledRefusal (now (register .entry)) member pools (now (ranks .entry)) (now (slip .entry))) (pooledAllocation (now (register .entry)) member pools (now (ranks .entry))) ⌝ }
 {
-    let outcome = waterfall::declaration::declare(*register, member, loss, ranks, slip);
+    let outcome = waterfall::declaration::declare(*register, member, pools, ranks, slip);
     *register = outcome.register;
     outcome.reply
 }

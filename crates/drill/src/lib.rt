@@ -1,6 +1,7 @@
 // The calls of a drill: document 01, "Declaring a default" and "What statement 3 counts".
 pub mod in_place;
 
+use admission::Pools;
 use waterfall::Outcome;
 use waterfall::Register;
 use waterfall::close::close;
@@ -12,9 +13,10 @@ ghost use Rattle.waterfall.specs.Register.{GivenBack};
 ghost use Rattle.waterfall.specs.Reply.{Says};
 ghost use Rattle.drill.specs.Drill.{appliedOf, slipLeft, refusalOf, allocatedBy};
 
-// "A drill call is one of four, each with its own figures." Ranks and slip of a default stand beside it.
+// "A drill call is one of four, each with its own figures." Of a default these are its member and its pools' count and losses; the ranks, 64 bytes a pool
+// in one slice, and the slip stand beside it.
 pub enum DrillCall {
-    Default { member: u64, loss: u64 },
+    Default { member: u64, pools: Pools },
     Payment { member: u64, amount: u64 },
     Replenishment { member: u64, amount: u64 },
     Close,
@@ -29,7 +31,7 @@ pub fn apply(register: Register, call: DrillCall, ranks: &[u8], slip: &mut [u64]
     ensures { λ r. ⌜ Says (r .reply) (refusalOf register call (now (ranks .entry)) (now (slip .entry))) (allocatedBy register call (now (ranks .entry))) ⌝ }
 {
     match call {
-        DrillCall::Default { member, loss } => declare(register, member, loss, ranks, slip),
+        DrillCall::Default { member, pools } => declare(register, member, pools, ranks, slip),
         DrillCall::Payment { member, amount } => pay(register, member, amount),
         DrillCall::Replenishment { member, amount } => replenish(register, member, amount),
         DrillCall::Close => close(register),

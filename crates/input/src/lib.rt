@@ -31,7 +31,7 @@ fn next(line: u64) -> u64 {
 
 // What a line says that has `len` bytes in the buffer and ends with the piece. A line that is not cut by a read is read where it stands.
 fn read(line: &mut [u8], len: usize, piece: &[u8], ranks: &mut [u8]) -> Line
-    requires { ⌜ length (now ranks) ≡ 64 ⌝ }
+    requires { ⌜ length (now ranks) ≡ 256 ⌝ }
 {
     if (len == 0) & (piece.len() <= line.len()) {
         return read_line(piece, ranks);
@@ -45,7 +45,7 @@ fn read(line: &mut [u8], len: usize, piece: &[u8], ranks: &mut [u8]) -> Line
 
 // Takes the chunk's bytes up to the next newline.
 fn take_piece(chunk: &[u8], line: &mut [u8], ranks: &mut [u8], p: Progress) -> Taken
-    requires { ⌜ length (now ranks) ≡ 64 ⌝ }
+    requires { ⌜ length (now ranks) ≡ 256 ⌝ }
     ensures { λ r. ⌜ r .progress .from ≤ r .progress .have ⌝ }
 {
     let from = p.from;
@@ -80,7 +80,7 @@ fn take_piece(chunk: &[u8], line: &mut [u8], ranks: &mut [u8], p: Progress) -> T
 
 // The input has ended. A last line may have no newline.
 fn end_input(line: &mut [u8], ranks: &mut [u8], p: Progress) -> Taken
-    requires { ⌜ length (now ranks) ≡ 64 ⌝ }
+    requires { ⌜ length (now ranks) ≡ 256 ⌝ }
     ensures { λ r. ⌜ r .progress .from ≤ r .progress .have ⌝ }
 {
     let progress = Progress {
@@ -103,7 +103,7 @@ fn end_input(line: &mut [u8], ranks: &mut [u8], p: Progress) -> Taken
 
 // Reads what is there.
 fn read_chunk(chunk: &mut [u8], line: &mut [u8], ranks: &mut [u8], p: Progress) -> Taken
-    requires { ⌜ length (now ranks) ≡ 64 ⌝ }
+    requires { ⌜ length (now ranks) ≡ 256 ⌝ }
     ensures { λ r. ⌜ r .progress .from ≤ r .progress .have ⌝ }
 {
     let got = libc::read(STDIN_FILENO, chunk);
@@ -128,7 +128,7 @@ fn read_chunk(chunk: &mut [u8], line: &mut [u8], ranks: &mut [u8], p: Progress) 
 
 // A line of the chunk, or another chunk. No more is taken of a chunk than it has.
 pub fn take(chunk: &mut [u8], line: &mut [u8], ranks: &mut [u8], p: Progress) -> Taken
-    requires { ⌜ length (now ranks) ≡ 64 ⌝ }
+    requires { ⌜ length (now ranks) ≡ 256 ⌝ }
     ensures { λ r. ⌜ r .progress .from ≤ r .progress .have ⌝ }
 {
     let from = p.from;

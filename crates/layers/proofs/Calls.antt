@@ -1,61 +1,62 @@
--- Layers one after the other, the calls of layer 6, a default placed with the figures that are read, and what the slip receives.
-use Prim.Native.Nat.{ℕ, _+_, _-_, _≤_}
-use mathlib.Core.Path.{_≡_, refl, ap, sym, _∙_}
-use mathlib.Core.Bool.{Bool, false}
+-- A default placed with the figures that are read, and what the slip receives.
+use Prim.Native.Nat.{ℕ, _+_, _-_, _≤_, _<_}
+use mathlib.Core.Path.{_≡_, ap, sym, _∙_}
 use mathlib.Core.List.{List, _++_}
 use native.Mathlib.Omega.{arith}
-use lib.ListN.{length, take, drop, replicate}
+use lib.ListN.{length, take, drop}
 use lib.Seq.{take-at, drop-at, drop-drop}
-use Rattle.lists.specs.Limits.{memberLimit, allocationLimit}
+use Rattle.lists.specs.Limits.{memberLimit, poolLimit, allocationLimit}
 use Rattle.lists.specs.Sums.{total}
-use Rattle.lists.proofs.Sums.{zeros, getD-zeros}
-use Rattle.split.specs.Split.{splitOf, exceeds}
-use Rattle.split.proofs.Laws.{length-split, total-within, exceeds-none}
 use Rattle.figures.specs.Figures.{liveIn, inDefault, figure, replace}
-use Rattle.layers.specs.Layers.{gives, rooms}
-use Rattle.layers.specs.Parts.{Roomy, Chargeable, Allocatable, Calls, GoesDown}
+use Rattle.admission.specs.Admission.{lossesOf}
+use Rattle.admission.specs.declared.Pools.{Pools}
+use Rattle.rooms.specs.Rooms.{rooms}
+use Rattle.rooms.specs.Parts.{Roomy, Leaves}
+use Rattle.rooms.proofs.Shares.{leaves}
+use Rattle.pools.specs.Pools.{sumsOf}
+use Rattle.pools.specs.Parts.{Poolable}
+use Rattle.pools.proofs.Sums.{counted-sums, total-sums}
+use Rattle.admission.proofs.EachPool.{length-losses}
+use Rattle.layers.specs.Parts.{Pooled, Allocatable, GoesDown}
 use Rattle.layers.specs.declared.Placed.{Placed}
 
--- what a layer gives and leaves of the same sum and the same resource
-pub layer-as : (g l left left′ has has′ : ℕ) → (g ≡ gives left has) × (l ≡ left - gives left has) → left ≡ left′ → has ≡ has′
-    → (g ≡ gives left′ has′) × (l ≡ left′ - gives left′ has′)
-layer-as g l left left′ has has′ e p q = rw (← p, ← q) e
+parts : (left has given rest : ℕ) → Leaves left has given rest → given + rest ≡ left
+parts left has given rest e = omega arith
 
--- no more is left than there was
-pub leaves : {g l : ℕ} (left has : ℕ) → (g ≡ gives left has) × (l ≡ left - gives left has) → l ≤ left
-leaves left has e = omega arith
+-- what layers 1 to 3 leave is what the pools have to place
+module _ (pools : Pools) (fallen margin contribution tranche1 g1 g2 g3 l1 l2 l3 : ℕ) (first : Leaves (total (lossesOf pools) + fallen) margin g1 l1) (second : Leaves l1 contribution g2 l2)
+    (third : Leaves l2 tranche1 g3 l3) (few : pools .count ≤ poolLimit) (some : 0 < pools .count) where
+  abbrev sums : List ℕ
+  sums = sumsOf (g1 + g2 + g3) fallen (lossesOf pools)
 
--- layer 6, by the rooms that were found and their total
-pub called-so : (found rooms cs : List ℕ) (left whole g l : ℕ) (over : Bool) → found ≡ rooms → whole ≡ total found → (g ≡ gives left whole) × (l ≡ left - gives left whole)
-    → cs ≡ splitOf g found → over ≡ exceeds cs found → Calls rooms left cs g l over
-called-so found rooms cs left whole g l over e w s q o =
-    let step = layer-as g l left left whole (total rooms) s refl (w ∙ ap total e) in
-    record {
-      total-is = step .0;
-      rest-is = step .1;
-      calls-are = q ∙ ap (splitOf g) e ∙ ap (λ (n : ℕ). splitOf n rooms) (step .0);
-      over-is = o ∙ ap (exceeds cs) e;
-    }
+  -- each layer gives a part of what was left, and leaves the rest
+  pub left-to-pools : l3 ≡ total sums
+  left-to-pools =
+      less (g1 + g2 + g3) (total (lossesOf pools) + fallen) l3 (added _ _ _ _ _ _ _ (parts _ _ _ _ first) (parts _ _ _ _ second) (parts _ _ _ _ third))
+      ∙ sym (total-sums (g1 + g2 + g3) fallen (lossesOf pools) (omega (arith, length-losses pools few)))
+    where
+      less : (g s l : ℕ) → g + l ≡ s → l ≡ s - g
+      less g s l e = omega arith
 
--- layer 6 where nothing is left
-pub called-none : (rooms : List ℕ) (left : ℕ) → length rooms ≡ memberLimit → left ≡ 0 → Calls rooms left (replicate memberLimit 0) 0 0 false
-called-none rooms left h e =
-    let g : gives left (total rooms) ≡ 0 = omega arith in
-    record {
-      total-is = sym g;
-      rest-is = omega arith;
-      calls-are =
-          zeros
-          memberLimit
-          (splitOf (gives left (total rooms)) rooms)
-          (length-split (gives left (total rooms)) rooms ∙ h)
-          (total-within (gives left (total rooms)) rooms (omega arith) ∙ g);
-      over-is = sym (exceeds-none (replicate memberLimit 0) rooms (λ k. omega (arith, getD-zeros memberLimit k)));
-    }
+      added : (s a b c l k m : ℕ) → a + l ≡ s → b + k ≡ l → c + m ≡ k → a + b + c + m ≡ s
+      added s a b c l k m p q r = omega arith
 
--- the calls add to what layer 6 gives
-pub whole-called : (rooms : List ℕ) (left : ℕ) (cs : List ℕ) (t rest : ℕ) (over : Bool) → Calls rooms left cs t rest over → t ≡ total cs
-whole-called rooms left cs t rest over s = s .total-is ∙ sym (ap total (s .calls-are) ∙ total-within (gives left (total rooms)) rooms (omega arith))
+  pub poolable : (status contributions ranks : List ℕ) → total (lossesOf pools) + fallen ≤ allocationLimit → Pooled pools status contributions ranks → Poolable sums status contributions ranks
+  poolable status contributions ranks fits p =
+      let n : length sums ≡ pools .count = counted-sums (g1 + g2 + g3) fallen pools few in
+      record {
+        some = omega (arith, n);
+        few = omega (arith, n);
+        sums-fit = bound _ _ _ _ _ (sym left-to-pools) (leaves _ _ third) (leaves _ _ second) (leaves _ _ first) fits;
+        status-length = p .status-length;
+        contribution-length = p .contribution-length;
+        ranks-length = rw n (p .ranks-length);
+        contribution-fits = p .contribution-fits;
+        well-ranked = rw n (p .well-ranked);
+      }
+    where
+      bound : (t a b c d : ℕ) → t ≡ a → a ≤ b → b ≤ c → c ≤ d → d ≤ allocationLimit → t ≤ allocationLimit
+      bound t a b c d e p q r f = omega arith
 
 -- the slip: two parts written one after the other
 pub slip-written : (charged called slip s1 s2 : List ℕ) → length charged ≡ memberLimit
@@ -70,12 +71,12 @@ slip-written charged called slip s1 s2 l e1 e2 =
     e2 ∙ rw (front, rest)
 
 -- a default is placed by the figures that were read of its lists: `others` are the statuses once the defaulter is in default
-module _ (status margins contributions outstanding cap called : List ℕ) (member loss : ℕ) (ranks : List ℕ) (p : Allocatable status margins contributions outstanding cap called member loss ranks)
+module _ (status margins contributions outstanding cap called : List ℕ) (member : ℕ) (pools : Pools) (ranks : List ℕ) (p : Allocatable status margins contributions outstanding cap called member pools ranks)
     (others : List ℕ) (fallen : ℕ) (marked : others ≡ replace status member inDefault) (read : fallen ≡ figure outstanding member) where
-  pub placed-with : (loss + fallen ≤ allocationLimit) × Chargeable others contributions ranks × Roomy others cap called
-  placed-with = rw (marked, read) (p .sum-fits, p .chargeable, p .roomy)
+  pub placed-with : (total (lossesOf pools) + fallen ≤ allocationLimit) × Pooled pools others contributions ranks × Roomy others cap called
+  placed-with = rw (marked, read) (p .sum-fits, p .pooled, p .roomy)
 
   pub placed-from : (margin contribution tranche1 tranche2 : ℕ) (x : Placed) → margin ≡ figure margins member → contribution ≡ figure contributions member
-      → GoesDown loss fallen margin contribution tranche1 tranche2 (liveIn others) contributions (rooms (liveIn others) cap called) ranks x
-      → GoesDown loss (figure outstanding member) (figure margins member) (figure contributions member) tranche1 tranche2 (liveIn (replace status member inDefault)) contributions (rooms (liveIn (replace status member inDefault)) cap called) ranks x
+      → GoesDown (lossesOf pools) fallen margin contribution tranche1 tranche2 (liveIn others) contributions (rooms (liveIn others) cap called) ranks x
+      → GoesDown (lossesOf pools) (figure outstanding member) (figure margins member) (figure contributions member) tranche1 tranche2 (liveIn (replace status member inDefault)) contributions (rooms (liveIn (replace status member inDefault)) cap called) ranks x
   placed-from margin contribution tranche1 tranche2 x m c d = rw (marked, read, m, c) at d

@@ -1,3 +1,2 @@
 -- The laws that the proofs of `layers` and of the crates above cite.
-pub mod Places
 pub mod Calls

@@ -1,3 +1,2 @@
 -- The definitions that the contracts of `layers` and of the crates above cite.
-pub mod Layers
 pub mod Parts

@@ -1,46 +1,25 @@
 // What a default takes, layer by layer, from lists of figures: document 01, "Declaring a default". It knows nothing of registers.
 // `status` is that of the members once the defaulter is in default, so that the live ones are the others.
-use figures::LIVE;
+use admission::Pools;
+use admission::all_losses;
 use figures::defaulted;
 use figures::figure_of;
 use figures::write;
 use lists::MEMBER_LIMIT;
-use ranks::Charged;
-use ranks::charge_by_rank;
-use split::split;
+use pools::charge_by_pools;
+use rooms::layer;
+use rooms::share_rooms;
 ghost use mathlib.Core.Path.{_≡_};
-ghost use mathlib.Core.Bool.{cond};
 ghost use mathlib.Core.List.{_++_};
-ghost use Prim.Native.Nat.{_+_, _-_, _≤_};
-ghost use lib.Dec.{eqb};
+ghost use Prim.Native.Nat.{_+_, _≤_};
 ghost use lib.ListN.{length, drop};
 ghost use Rattle.lists.specs.Limits.{memberLimit, allocationLimit};
-ghost use Rattle.lists.specs.Sums.{total, keep};
-ghost use Rattle.split.specs.Split.{exceeds};
-ghost use Rattle.ranks.specs.Ranks.{chargesOf};
-ghost use Rattle.figures.specs.Figures.{figure, live, liveIn, others};
-ghost use Rattle.layers.specs.Layers.{gives, rooms};
-ghost use Rattle.layers.specs.Parts.{Roomy, Chargeable, Calls, GoesDown, Allocatable};
-
-// What a layer gives, and what is left after it.
-struct Given {
-    gives: u64,
-    left: u64,
-}
-
-// The rests of the caps, and their total.
-struct Rooms {
-    rooms: [u64; 64],
-    total: u64,
-}
-
-// Layer 6: the calls, what is left after them, and whether one passes its room.
-struct Called {
-    calls: [u64; 64],
-    total: u64,
-    left: u64,
-    over: bool,
-}
+ghost use Rattle.lists.specs.Sums.{total};
+ghost use Rattle.figures.specs.Figures.{figure, liveIn, others};
+ghost use Rattle.admission.specs.Admission.{lossesOf};
+ghost use Rattle.rooms.specs.Rooms.{rooms};
+ghost use Rattle.rooms.specs.Parts.{Roomy};
+ghost use Rattle.layers.specs.Parts.{Pooled, GoesDown, Allocatable};
 
 // The fallen call, what the six layers give, what is left after them, and whether a share passes what it is drawn from.
 pub struct Placed {
@@ -57,122 +36,9 @@ pub struct Placed {
     pub over: bool,
 }
 
-// "each giving all it has or all that is left to place"
-fn layer(left: u64, has: u64) -> Given
-    ensures { λ r. ⌜ (r .gives ≡ gives left has) × (r .left ≡ left - gives left has) ⌝ }
-{
-    if left < has {
-        return Given {
-            gives: left,
-            left: 0,
-        };
-    }
-    Given {
-        gives: has,
-        left: left - has,
-    }
-}
-
-fn live_figure(status: u8, figure: u32) -> u64
-    ensures { λ r. ⌜ r ≡ cond (eqb live status) figure 0 ⌝ }
-{
-    if status == LIVE {
-        return figure as u64;
-    }
-    0
-}
-
-fn read_rank(status: u8, rank: u8) -> u8
-    ensures { λ r. ⌜ r ≡ cond (eqb live status) rank 0 ⌝ }
-{
-    if status != LIVE {
-        return 0;
-    }
-    rank
-}
-
-// "Only ranks of live members other than the defaulter are read": the others' count as 0, which is no rank.
-fn read_ranks(status: &[u8; 64], ranks: &[u8]) -> [u8; 64]
-    requires { ⌜ (length (now status) ≡ memberLimit) × (length (now ranks) ≡ memberLimit) ⌝ }
-    ensures { λ r. ⌜ r ≡ keep (liveIn (now (status .entry))) (now (ranks .entry)) ⌝ }
-{
-    let mut read = [0u8; 64];
-    let mut i = 0;
-    while i < 64 {
-        read[i] = read_rank(status[i], ranks[i]);
-        i += 1;
-    }
-    read
-}
-
-// The rests of the caps of the live members, and 0 for the others.
-fn rooms_of<'a>(status: &'a [u8; 64], cap: &'a [u32; 64], called: &'a [u32; 64]) -> Rooms
-    requires { ⌜ Roomy (now status) (now cap) (now called) ⌝ }
-    ensures { λ r. ⌜ (r .rooms ≡ rooms (liveIn (now (status .entry))) (now (cap .entry)) (now (called .entry))) × (r .total ≡ total (r .rooms)) ⌝ }
-{
-    let mut rooms = [0u64; 64];
-    let mut whole: u64 = 0;
-    let mut i = 0;
-    while i < 64 {
-        let room = live_figure(status[i], cap[i] - called[i]);
-        rooms[i] = room;
-        whole += room;
-        i += 1;
-    }
-    Rooms {
-        rooms,
-        total: whole,
-    }
-}
-
-// Layer 4. "other live members' contributions"
-fn charge_others<'a>(
-    status: &'a [u8; 64],
-    contribution: &'a [u32; 64],
-    sum: u64,
-    ranks: &[u8],
-) -> Charged
-    requires { ⌜ (sum ≤ allocationLimit) × Chargeable (now status) (now contribution) (now ranks) ⌝ }
-    ensures { λ r. ⌜ (r .charges ≡ chargesOf sum (keep (liveIn (now (status .entry))) (now (contribution .entry))) (now (ranks .entry)))
-        × (r .total ≡ total (r .charges)) × (r .over ≡ exceeds (r .charges) (now (contribution .entry))) ⌝ }
-{
-    let read = read_ranks(status, ranks);
-    charge_by_rank(sum, contribution, &read)
-}
-
-// Layer 6. "calls on other live members": where nothing is left, no room is looked at.
-fn call_others<'a>(
-    status: &'a [u8; 64],
-    cap: &'a [u32; 64],
-    called: &'a [u32; 64],
-    left: u64,
-) -> Called
-    requires { ⌜ Roomy (now status) (now cap) (now called) × (left ≤ allocationLimit) ⌝ }
-    ensures { λ r. ⌜ Calls (rooms (liveIn (now (status .entry))) (now (cap .entry)) (now (called .entry))) left (r .calls) (r .total) (r .left) (r .over) ⌝ }
-{
-    if left == 0 {
-        return Called {
-            calls: [0u64; 64],
-            total: 0,
-            left: 0,
-            over: false,
-        };
-    }
-    let found = rooms_of(status, cap, called);
-    let step = layer(left, found.total);
-    let mut calls = [0u64; 64];
-    let over = split(step.gives, found.total, &found.rooms, &mut calls);
-    Called {
-        calls,
-        total: step.gives,
-        left: step.left,
-        over,
-    }
-}
-
-// The six layers, one after the other: the loss and the fallen call go down them.
+// The six layers, one after the other: the losses and the fallen call go down them.
 fn place<'a>(
-    loss: u64,
+    pools: Pools,
     fallen: u64,
     margin: u64,
     contribution: u64,
@@ -184,17 +50,26 @@ fn place<'a>(
     called: &'a [u32; 64],
     ranks: &[u8],
 ) -> Placed
-    requires { ⌜ (loss + fallen ≤ allocationLimit) × Chargeable (now status) (now contributions) (now ranks) × Roomy (now status) (now cap) (now called) ⌝ }
-    ensures { λ r. ⌜ GoesDown loss fallen margin contribution tranche1 tranche2 (liveIn (now (status .entry))) (now (contributions .entry)) (rooms (liveIn (now (status .entry))) (now (cap .entry)) (now (called .entry))) (now (ranks .entry)) r ⌝ }
+    requires { ⌜ (total (lossesOf pools) + fallen ≤ allocationLimit) × Pooled pools (now status) (now contributions) (now ranks) × Roomy (now status) (now cap) (now called) ⌝ }
+    ensures { λ r. ⌜ GoesDown (lossesOf pools) fallen margin contribution tranche1 tranche2 (liveIn (now (status .entry))) (now (contributions .entry)) (rooms (liveIn (now (status .entry))) (now (cap .entry)) (now (called .entry))) (now (ranks .entry)) r ⌝ }
 {
-    let first = layer(loss + fallen, margin);
+    let first = layer(all_losses(pools) + fallen, margin);
     let second = layer(first.left, contribution);
     let third = layer(second.left, tranche1);
-    let fourth = charge_others(status, contributions, third.left, ranks);
+    let mut charges = [0u64; 64];
+    let fourth = charge_by_pools(
+        first.gives + second.gives + third.gives,
+        fallen,
+        pools,
+        third.left,
+        status,
+        contributions,
+        ranks,
+        &mut charges,
+    );
     let fifth = layer(third.left - fourth.total, tranche2);
-    let sixth = call_others(status, cap, called, fifth.left);
-    let charges = fourth.charges;
-    let calls = sixth.calls;
+    let sixth = share_rooms(status, cap, called, fifth.left);
+    let calls = sixth.shares;
     Placed {
         fallen,
         margin: first.gives,
@@ -210,7 +85,7 @@ fn place<'a>(
     }
 }
 
-// A default that 11 to 15 do not refuse, by the figures of the register that it is declared in. Nothing is changed yet.
+// A default that 11 to 15, 21 and 22 do not refuse, by the figures of the register that it is declared in. Nothing is changed yet.
 pub fn allocate<'a>(
     status: [u8; 64],
     margins: &'a [u32; 64],
@@ -221,15 +96,15 @@ pub fn allocate<'a>(
     tranche1: u64,
     tranche2: u64,
     member: u64,
-    loss: u64,
+    pools: Pools,
     ranks: &[u8],
 ) -> Placed
-    requires { ⌜ Allocatable status (now margins) (now contributions) (now outstanding) (now cap) (now called) member loss (now ranks) ⌝ }
-    ensures { λ r. ⌜ GoesDown loss (figure (now (outstanding .entry)) member) (figure (now (margins .entry)) member) (figure (now (contributions .entry)) member) tranche1 tranche2 (others status member) (now (contributions .entry)) (rooms (others status member) (now (cap .entry)) (now (called .entry))) (now (ranks .entry)) r ⌝ }
+    requires { ⌜ Allocatable status (now margins) (now contributions) (now outstanding) (now cap) (now called) member pools (now ranks) ⌝ }
+    ensures { λ r. ⌜ GoesDown (lossesOf pools) (figure (now (outstanding .entry)) member) (figure (now (margins .entry)) member) (figure (now (contributions .entry)) member) tranche1 tranche2 (others status member) (now (contributions .entry)) (rooms (others status member) (now (cap .entry)) (now (called .entry))) (now (ranks .entry)) r ⌝ }
 {
     let others = defaulted(status, member);
     place(
-        loss,
+        pools,
         figure_of(outstanding, member),
         figure_of(margins, member),
         figure_of(contributions, member),

@@ -1,2 +1,3 @@
 -- The laws that the proofs cite.
 pub mod Reading
+pub mod Pooling

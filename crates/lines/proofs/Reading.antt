@@ -11,36 +11,24 @@ use Rattle.words.specs.Words.{firstOf, restOf, noWord}
 use Rattle.words.proofs.Cutting.{no-words}
 use Rattle.numbers.specs.Numbers.{readOf}
 use Rattle.numbers.specs.declared.Number.{Number}
-use Rattle.typed_ranks.specs.TypedRanks.{missingRanks, unnamed, allGood, ranksIn}
+use Rattle.typed_ranks.specs.TypedRanks.{noRanks}
 use Rattle.drill.specs.declared.DrillCall.{DrillCall}
-use Rattle.lines.specs.Lines.{callOf, defaultLine, defaultRanks, pairLine, otherLine, lineIn, ranksFor}
+use Rattle.lines.specs.Defaults.{defaultLine, defaultRanks}
+use Rattle.lines.specs.Lines.{callOf, pairLine, otherLine, lineIn, ranksFor}
 use Rattle.lines.specs.declared.Line.{Line}
 
 -- a call from its numbers, and what follows them
-module _ (ws vs : List (List ℕ)) (e : vs ≡ restOf (restOf ws)) where
-  module _ (make : ℕ → ℕ → DrillCall) where
-    pub pair-bad : noWord vs ≡ false → Line.Unreadable ≡ pairLine make ws
-    unfolding pairLine
-    pair-bad h = check-false _ _ _ (ap noWord (sym e) ∙ h) refl
+module _ (ws vs : List (List ℕ)) (e : vs ≡ restOf (restOf ws)) (make : ℕ → ℕ → DrillCall) where
+  pub pair-bad : noWord vs ≡ false → Line.Unreadable ≡ pairLine make ws
+  unfolding pairLine
+  pair-bad h = check-false _ _ _ (ap noWord (sym e) ∙ h) refl
 
-    pub pair-made : noWord vs ≡ true → (a b : Number) (r : Line) → a ≡ readOf (firstOf ws) → b ≡ readOf (firstOf (restOf ws)) → r ≡ callOf make a b → r ≡ pairLine make ws
-    unfolding pairLine
-    pair-made h a b r f g k = check-true _ _ _ (ap noWord (sym e) ∙ h) (k ∙ rw (f, g))
-
-  pub default-bad : allGood unnamed vs ≡ false → (Line.Unreadable ≡ defaultLine ws) × (missingRanks ≡ defaultRanks ws)
-  unfolding defaultLine defaultRanks
-  default-bad h =
-      let t : allGood unnamed (restOf (restOf ws)) ≡ false = ap (allGood unnamed) (sym e) ∙ h in
-      (check-false _ _ _ t refl, check-false _ _ _ t refl)
-
-  pub default-made : allGood unnamed vs ≡ true → (a b : Number) (r : Line) → a ≡ readOf (firstOf ws) → b ≡ readOf (firstOf (restOf ws)) → r ≡ callOf DrillCall.Default a b → (ranks : List ℕ) → ranks ≡ missingRanks → (r ≡ defaultLine ws) × (ranksIn ranks vs ≡ defaultRanks ws)
-  unfolding defaultLine defaultRanks
-  default-made h a b r f g k ranks m =
-      let t : allGood unnamed (restOf (restOf ws)) ≡ true = ap (allGood unnamed) (sym e) ∙ h in
-      (check-true _ _ _ t (k ∙ rw (f, g)), check-true _ _ _ t (rw (m, e)))
+  pub pair-made : noWord vs ≡ true → (a b : Number) (r : Line) → a ≡ readOf (firstOf ws) → b ≡ readOf (firstOf (restOf ws)) → r ≡ callOf make a b → r ≡ pairLine make ws
+  unfolding pairLine
+  pair-made h a b r f g k = check-true _ _ _ (ap noWord (sym e) ∙ h) (k ∙ rw (f, g))
 
 -- a line by its first word
-pub line-blank : (ws : List (List ℕ)) → noWord ws ≡ true → (Line.Blank ≡ lineIn ws) × (missingRanks ≡ ranksFor ws)
+pub line-blank : (ws : List (List ℕ)) → noWord ws ≡ true → (Line.Blank ≡ lineIn ws) × (noRanks ≡ ranksFor ws)
 unfolding lineIn ranksFor check
 line-blank ws h = rw (no-words ws h) (refl, refl)
 
@@ -51,7 +39,7 @@ module _ (ws : List (List ℕ)) (h : noWord ws ≡ false) (w : List ℕ) (e : fi
       let u : sameBytes (firstOf ws) (ascii "default") ≡ true = rw e t in
       (check-false _ _ _ h (check-true _ _ _ u (p ∙ ap defaultLine (sym f))), check-true _ _ _ u (q ∙ ap defaultRanks (sym f)))
 
-  pub line-other : sameBytes w (ascii "default") ≡ false → r ≡ otherLine w vs → k ≡ missingRanks → (r ≡ lineIn ws) × (k ≡ ranksFor ws)
+  pub line-other : sameBytes w (ascii "default") ≡ false → r ≡ otherLine w vs → k ≡ noRanks → (r ≡ lineIn ws) × (k ≡ ranksFor ws)
   unfolding lineIn ranksFor
   line-other t p q =
       let u : sameBytes (firstOf ws) (ascii "default") ≡ false = rw e t in

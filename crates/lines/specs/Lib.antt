@@ -1,3 +1,5 @@
--- The definitions that the contracts cite.
+-- The definitions that the contracts cite, and examples.
+pub mod Defaults
 pub mod Lines
 pub mod Parts
+pub mod Examples

@@ -7,8 +7,9 @@ use Rattle.words.specs.Bytes.{sameBytes}
 use Rattle.words.specs.Words.{firstOf, restOf, noWord, wordsOf}
 use Rattle.numbers.specs.Numbers.{readOf}
 use Rattle.numbers.specs.declared.Number.{Number}
-use Rattle.typed_ranks.specs.TypedRanks.{missingRanks, unnamed, allGood, ranksIn}
+use Rattle.typed_ranks.specs.TypedRanks.{noRanks}
 use Rattle.drill.specs.declared.DrillCall.{DrillCall}
+use Rattle.lines.specs.Defaults.{defaultLine, defaultRanks}
 use Rattle.lines.specs.declared.Line.{Line}
 
 -- unreadable: "something that is no number"
@@ -20,13 +21,6 @@ callOf make Number.NotANumber n = Line.Unreadable
 -- the first two words as the numbers of a call; a word too few is no number
 abbrev pub numbersOf : (ℕ → ℕ → DrillCall) → List (List ℕ) → Line
 numbersOf make ws = callOf make (readOf (firstOf ws)) (readOf (firstOf (restOf ws)))
-
--- `default M LOSS M:R M:R ..`, behind its first word: the call, and the ranks
-unfoldable pub defaultLine : List (List ℕ) → Line
-defaultLine ws = check (allGood unnamed (restOf (restOf ws))) (numbersOf DrillCall.Default ws) Line.Unreadable
-
-unfoldable pub defaultRanks : List (List ℕ) → List ℕ
-defaultRanks ws = check (allGood unnamed (restOf (restOf ws))) (ranksIn missingRanks (restOf (restOf ws))) missingRanks
 
 -- `payment M AMOUNT`, `replenishment M AMOUNT`: "a word too many" is unreadable
 unfoldable pub pairLine : (ℕ → ℕ → DrillCall) → List (List ℕ) → Line
@@ -54,12 +48,12 @@ lineIn ws =
     (otherLine (firstOf ws) (restOf ws)))
 
 unfoldable pub ranksFor : List (List ℕ) → List ℕ
-ranksFor ws = check (sameBytes (firstOf ws) (ascii "default")) (defaultRanks (restOf ws)) missingRanks
+ranksFor ws = check (sameBytes (firstOf ws) (ascii "default")) (defaultRanks (restOf ws)) noRanks
 
 -- what a line says
 abbrev pub lineOf : List ℕ → Line
 lineOf line = lineIn (wordsOf line)
 
--- the ranks beside it: those that a default's words give, where each of them can be used, and 255 for everyone else
+-- the ranks beside it: those that the words of a readable default give to its first four pools, and 255 for everyone else
 abbrev pub ranksOf : List ℕ → List ℕ
 ranksOf line = ranksFor (wordsOf line)

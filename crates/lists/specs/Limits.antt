@@ -9,6 +9,10 @@ memberLimit = 64
 abbrev pub rankLimit : ℕ
 rankLimit = 24
 
+-- document 02, request 3: "A default may name 1 to 4 pools"
+abbrev pub poolLimit : ℕ
+poolLimit = 4
+
 -- "An amount is 0 to 400,000,000"
 abbrev pub amountLimit : ℕ
 amountLimit = 400_000_000
@@ -25,7 +29,7 @@ sumLimit = 25_600_000_000
 abbrev pub contributionFloor : ℕ
 contributionFloor = 10_000
 
--- the most that a default has to allocate: a loss and a fallen call
+-- the most that a default has to allocate: losses and a fallen call
 abbrev pub allocationLimit : ℕ
 allocationLimit = 26_000_000_000
 

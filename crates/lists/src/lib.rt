@@ -9,6 +9,9 @@ pub const MEMBER_LIMIT: usize = 64;
 // "1 is most senior, 64 most junior"; document 02, request 2: "The limit of 64 becomes 24 in refusal 15"
 pub const RANK_LIMIT: u8 = 24;
 
+// document 02, request 3: "A default may name 1 to 4 pools"
+pub const POOL_LIMIT: usize = 4;
+
 // "An amount is 0 to 400,000,000"
 pub const AMOUNT_LIMIT: u64 = 400_000_000;
 

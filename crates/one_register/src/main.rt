@@ -1,4 +1,5 @@
 // "The console keeps one register through the whole drill": document 01's register of four members stands in one place, and each call takes it by `&mut`.
+use admission::Pools;
 use drill::in_place::close;
 use drill::in_place::declare;
 use drill::in_place::pay;
@@ -49,13 +50,13 @@ fn show(register: Register, number: u64) {
     io::write_all(STDOUT_FILENO, b"\n");
 }
 
-// Margin, contributions and tranches hold 152,000 in all: of a loss of 152,001 one thousand is called, of member 3. It is asked for two, which is
-// refused, and pays it; member 2 puts money back, and the close finds nothing outstanding. Proved by hand, because a function that lends a register is
-// not covered by the borrow checker's own walk.
-fn calls(mut register: Register, loss: u64, ranks: &[u8], slip: &mut [u64])
+// Margin, contributions and tranches hold 152,000 in all: of a loss of 152,001, in one pool, one thousand is called, of member 3. It is asked for two,
+// which is refused, and pays it; member 2 puts money back, and the close finds nothing outstanding. Proved by hand, because a function that lends a
+// register is not covered by the borrow checker's own walk.
+fn calls(mut register: Register, pools: Pools, ranks: &[u8], slip: &mut [u64])
     requires { ⌜ GivenBack register ⌝ }
 {
-    tell(declare(&mut register, 1, loss, ranks, slip));
+    tell(declare(&mut register, 1, pools, ranks, slip));
     tell(pay(&mut register, 3, 2));
     tell(pay(&mut register, 3, 1));
     tell(replenish(&mut register, 2, 100));
@@ -72,5 +73,12 @@ fn main() {
     ranks[2] = 2;
     ranks[3] = 2;
     let mut slip = [0u64; 128];
-    calls(opened.register, 152_001, &ranks, &mut slip);
+    let pools = Pools {
+        count: 1,
+        loss1: 152_001,
+        loss2: 0,
+        loss3: 0,
+        loss4: 0,
+    };
+    calls(opened.register, pools, &ranks, &mut slip);
 }

@@ -15,10 +15,13 @@ use Rattle.numbers.specs.declared.Number.{Number}
 use Rattle.indian_digits.specs.IndianDigits.{indianOf}
 use Rattle.indian_digits.proofs.Theorems.{digitsIn, amount-back, amount-fits}
 use Rattle.figures.proofs.Figures.{figure-bound}
-use Rattle.admission.proofs.Admitted.{admitted}
+use Rattle.admission.proofs.Admitted.{pools-admitted}
 use Rattle.waterfall.specs.Register.{GivenBack}
-use Rattle.waterfall.specs.Default.{fallenCall, allocationOf, defaultRefusal}
+use Rattle.waterfall.specs.Default.{fallenCall, allocationOf}
+use Rattle.waterfall.specs.Pools.{lossTogether, pooledCharges, pooledAllocation, pooledRefusal}
+use Rattle.admission.specs.declared.Pools.{Pools}
 use Rattle.waterfall.proofs.Default.{placed}
+use Rattle.waterfall.proofs.Pooled.{pooled-layer4}
 use Rattle.waterfall.specs.declared.Allocation.{Allocation}
 use Rattle.waterfall.specs.declared.Register.{Register}
 use Rattle.page.specs.Parts.{Within}
@@ -80,12 +83,13 @@ no-two-alike a b page other e =
 
 -- Every default's answer can be printed ---------------------------------------------
 
-pub answers-within : (r : Register) (member loss : ℕ) (ranks slip : List ℕ) → GivenBack r → defaultRefusal r member loss ranks slip ≡ 0 → Within (allocationOf r member loss ranks)
-unfolding allocationOf defaultRefusal fallenCall
-answers-within r member loss ranks slip g e =
-    let fits = admitted (r .status) member loss ranks (length slip) _ e .loss-fits in
+pub answers-within : (r : Register) (member : ℕ) (pools : Pools) (ranks slip : List ℕ) → GivenBack r → pooledRefusal r member pools ranks slip ≡ 0 → Within (pooledAllocation r member pools ranks)
+unfolding pooledAllocation allocationOf pooledRefusal fallenCall
+answers-within r member pools ranks slip g e =
+    let a = pools-admitted (r .status) member pools ranks (length slip) _ e in
+    let fits = a .losses-fit in
     let fallen = figure-bound (r .outstanding) amountLimit (λ k. omega (arith, g .outstanding-fits k, g .called-fits k, g .cap-fits k)) member in
-    let sum = placed r member loss ranks in
+    let sum = placed r member (lossTogether pools) (pooledCharges r member pools ranks) (pooled-layer4 r member pools (a .some) (a .few) g ranks (a .ranks-length)) in
     record {
       margin = omega (arith, fits, fallen, sum);
       contribution = omega (arith, fits, fallen, sum);
@@ -96,7 +100,7 @@ answers-within r member loss ranks slip g e =
       short = omega (arith, fits, fallen, sum);
     }
 
-pub answers-print : (r : Register) (member loss : ℕ) (ranks slip : List ℕ) (size : ℕ) → GivenBack r → defaultRefusal r member loss ranks slip ≡ 0
-    → pageLength ≤ size → pageRefusal (allocationOf r member loss ranks) size ≡ 0
-answers-print r member loss ranks slip size g e h =
-    printable (allocationOf r member loss ranks) size (answers-within r member loss ranks slip g e) h
+pub answers-print : (r : Register) (member : ℕ) (pools : Pools) (ranks slip : List ℕ) (size : ℕ) → GivenBack r → pooledRefusal r member pools ranks slip ≡ 0
+    → pageLength ≤ size → pageRefusal (pooledAllocation r member pools ranks) size ≡ 0
+answers-print r member pools ranks slip size g e h =
+    printable (pooledAllocation r member pools ranks) size (answers-within r member pools ranks slip g e) h

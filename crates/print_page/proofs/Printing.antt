@@ -7,7 +7,7 @@ use Rattle.lists.specs.Checks.{refuses}
 use Rattle.lists.proofs.Checks.{check-by, no-refusal}
 use Rattle.buffers.specs.Buffer.{written}
 use Rattle.waterfall.specs.Register.{GivenBack}
-use Rattle.waterfall.specs.Default.{defaultOf}
+use Rattle.waterfall.specs.Pools.{pooledOf}
 use Rattle.waterfall.specs.Calls.{paymentOf, replenishmentOf, closeOf}
 use Rattle.waterfall.specs.Reply.{judged}
 use Rattle.waterfall.specs.declared.Allocation.{Allocation}
@@ -32,9 +32,9 @@ judged-printable number r reply next latest p f =
     (λ e. f (no-refusal number e))
 
 still-printable : (r : Register) (call : DrillCall) (ranks slip : List ℕ) (latest : Latest) → GivenBack r → Printable latest → Printable (latestOf latest (appliedOf r call ranks slip .reply))
-unfolding defaultOf paymentOf replenishmentOf closeOf
-still-printable r (DrillCall.Default member loss) ranks slip latest g p =
-    judged-printable _ r _ _ latest p (λ e. answers-within r member loss ranks slip g e)
+unfolding pooledOf paymentOf replenishmentOf closeOf
+still-printable r (DrillCall.Default member pools) ranks slip latest g p =
+    judged-printable _ r _ _ latest p (λ e. answers-within r member pools ranks slip g e)
 still-printable r (DrillCall.Payment member amount) ranks slip latest g p = judged-printable _ r _ _ latest p (λ _. p)
 still-printable r (DrillCall.Replenishment member amount) ranks slip latest g p = judged-printable _ r _ _ latest p (λ _. p)
 still-printable r DrillCall.Close ranks slip latest g p = judged-printable _ r _ _ latest p (λ _. p)

@@ -17,7 +17,7 @@ use Rattle.lists.proofs.Places.{by-order, raised}
 use Rattle.lists.proofs.Sums.{zeros, all-zeros, total-zeros, getD-zeros, total-plus, plus-assoc, plus-none, none-plus, length-keep, keep-le, cond-le, keep-map-step}
 use Rattle.split.specs.Parts.{Splits}
 use Rattle.split.specs.Split.{splitOf, exceeds}
-use Rattle.split.proofs.Laws.{length-split, total-within, total-of-none, split-within, split-whole, exceeds-none}
+use Rattle.split.proofs.Laws.{length-split, total-within, total-of-none, split-within, split-whole, exceeds-none, splits-as}
 use Rattle.ranks.specs.Ranks.{atRank, rankGives, chargesFrom, chargesOf}
 use Rattle.ranks.specs.Parts.{Weighed, Totals, Next, Marginal, Shared, aboveRank}
 use Rattle.ranks.proofs.Laws.{length-at, length-shares, length-from, total-from}
@@ -75,14 +75,10 @@ pub shares-asked : (rank part whole : ℕ) (ws rs tied charges : List ℕ) → W
     → tied ≡ atRank rank ws rs → Splits part whole tied charges
 shares-asked rank part whole ws rs tied charges w s p e =
     let l : length (atRank rank ws rs) ≡ length ws = length-at rank ws rs (matched ws rs w) in
-    rw e
-    record {
-      sum-fits = s .part-fits;
-      whole-is = s .whole-is p;
-      weights-fit = λ k. omega (arith, keep-le (map (eqb rank) rs) ws k, w .weights-fit k);
-      few = omega (arith, w .long);
-      as-many = omega (arith, w .long, s .long);
-    }
+    splits-as part whole tied (atRank rank ws rs) charges e (s .part-fits) (s .whole-is p)
+    (λ k. omega (arith, keep-le (map (eqb rank) rs) ws k, w .weights-fit k))
+    (l ∙ w .long)
+    (s .long)
 
 -- where a rank gives nothing, its shares are all 0
 pub unshared : (part : ℕ) (tied charges : List ℕ) → part ≡ 0 → length charges ≡ length tied → total charges ≡ 0

@@ -17,9 +17,8 @@ ghost use Rattle.ranks.specs.Parts.{Weighed, Totals, Next, Marginal, Sha
 // A place for each rank, and place 0 for what has none.
 const RANKS: usize = RANK_LIMIT as usize + 1;
 
-// The charges, place by place, their total, and whether one comes out above its weight.
+// The total of the charges, and whether one comes out above its weight.
 pub struct Charged {
-    pub charges: [u64; 64],
     pub total: u64,
     pub over: bool,
 }
@@ -162,16 +161,21 @@ fn charge_above(rank: u8, above: u64, weights: &[u32; 64], ranks: &[u8], charges
     }
 }
 
-// `sum` charged to `weights` by rank. The total needs no second addition: it is the sum, less what no rank could give.
-pub fn charge_by_rank(sum: u64, weights: &[u32; 64], ranks: &[u8]) -> Charged
-    requires { ⌜ (sum ≤ allocationLimit) × Weighed (now weights) (now ranks) ⌝ }
-    ensures { λ r. ⌜ (r .charges ≡ chargesOf sum (now (weights .entry)) (now (ranks .entry))) × (r .total ≡ total (r .charges)) ⌝ }
-    ensures { λ r. ⌜ r .over ≡ exceeds (r .charges) (now (weights .entry)) ⌝ }
+// `sum` charged to `weights` by rank, into charges that are lent and so far all 0. The total needs no second addition: it is the sum, less what no
+// rank could give.
+pub fn charge_by_rank(
+    sum: u64,
+    weights: &[u32; 64],
+    ranks: &[u8],
+    charges: &mut [u64; 64],
+) -> Charged
+    requires { ⌜ (sum ≤ allocationLimit) × Weighed (now weights) (now ranks) × (length (now charges) ≡ memberLimit) × (total (now charges) ≡ 0) ⌝ }
+    ensures { λ _. ⌜ now (charges .exit) ≡ chargesOf sum (now (weights .entry)) (now (ranks .entry)) ⌝ }
+    ensures { λ r. ⌜ (r .total ≡ total (chargesOf sum (now (weights .entry)) (now (ranks .entry))))
+        × (r .over ≡ exceeds (chargesOf sum (now (weights .entry)) (now (ranks .entry))) (now (weights .entry))) ⌝ }
 {
-    let mut charges = [0u64; 64];
     if sum == 0 {
         return Charged {
-            charges,
             total: 0,
             over: false,
         };
@@ -183,17 +187,16 @@ pub fn charge_by_rank(sum: u64, weights: &[u32; 64], ranks: &[u8]) -> Charged
         margin.whole,
         weights,
         ranks,
-        &mut charges,
+        charges,
     );
     charge_above(
         margin.rank,
         margin.total - margin.part,
         weights,
         ranks,
-        &mut charges,
+        charges,
     );
     Charged {
-        charges,
         total: margin.total,
         over,
     }

@@ -1,19 +1,22 @@
 // Every refusal of sizing and of the drill calls, obtained from compiled code, also where two apply: a test that prints each number and position.
-// The cases are the lines of the file stdin; `rt ci` holds what is printed to the file stdout, which was written from document 01. A line has
-// a label, what is called, the numbers that it is called with, and bytes in hexadecimal:
+// The cases are the lines of the file stdin; `rt ci` holds what is printed to the file stdout, which was written from documents 01 and 02. A line
+// has a label, what is called, the numbers that it is called with, and bytes in hexadecimal:
 //
 //     LABEL: size P V SLIP / STRESS SHEET | SHARES SHEET    the slip has SLIP numbers
 //     LABEL: open G / REGISTER SHEET
-//     LABEL: default MEMBER LOSS COUNT SLIP / RANKS         COUNT ranks are handed over, 255 where RANKS says nothing
+//     LABEL: default MEMBER POOLS LOSS1 LOSS2 LOSS3 LOSS4 COUNT SLIP / RANKS; RANKS; ..
+//                                                           COUNT ranks are handed over, 255 where a pool's RANKS say nothing
 //     LABEL: payment MEMBER AMOUNT
 //     LABEL: replenishment MEMBER AMOUNT
 //     LABEL: close
 //
 // A line without a label prints nothing: it makes the register that the calls below it are tried on. A call with a label hands nothing on. A refusal
 // that altered a slip or a register is told, and so is a refused opening that handed back a member or a tranche.
+use cases::Declared;
 use cases::Given;
 use cases::before;
 use cases::bytes;
+use cases::declaration;
 use cases::figures;
 use cases::from;
 use libc::STDIN_FILENO;
@@ -84,7 +87,7 @@ fn same(a: Register, b: Register) -> bool {
 }
 
 fn size(label: &[u8], n: Given, sheets: &[u8])
-    requires { ⌜ n .third ≤ 96 ⌝ }
+    requires { ⌜ n .third ≤ 130 ⌝ }
 {
     let first = bytes(before(sheets, b'|'), 0);
     let to = first.count;
@@ -147,19 +150,19 @@ fn told(label: &[u8], register: Register, outcome: Outcome, kept: bool) -> Regis
     register
 }
 
-fn default(label: &[u8], n: Given, named: &[u8], register: Register) -> Register
-    requires { ⌜ GivenBack register × (n .third ≤ 96) × (n .fourth ≤ 130) ⌝ }
+fn default(label: &[u8], n: Declared, digits: &[u8], register: Register) -> Register
+    requires { ⌜ GivenBack register × (n .ranks ≤ 320) × (n .slip ≤ 130) ⌝ }
     ensures { λ r. ⌜ GivenBack r ⌝ }
 {
-    let read = bytes(named, 255);
+    let read = bytes(digits, 255);
     let ranks = read.list;
-    let count = n.third;
+    let count = n.ranks;
     let mut slip = [7u64; 130];
-    let lent = n.fourth;
+    let lent = n.slip;
     let outcome = declare(
         register,
-        n.first,
-        n.second,
+        n.member,
+        n.pools,
         &ranks[0..count],
         &mut slip[0..lent],
     );
@@ -197,7 +200,7 @@ fn run(line: &[u8], register: Register) -> Register
             register
         }
         b'o' => opening(label, n.first, sheets),
-        b'd' => default(label, n, sheets, register),
+        b'd' => default(label, declaration(words), sheets, register),
         _ => told(
             label,
             register,

@@ -1,5 +1,6 @@
 // Opens a register and answers drill calls, one a line of standard input. The answers to the lines that came with one read are written before the
 // next read.
+use drill::DrillCall;
 use files::Sheet;
 use input::Progress;
 use libc::STDERR_FILENO;
@@ -12,10 +13,28 @@ use output::put_reply;
 use output::put_unreadable;
 use print_page::Latest;
 use print_page::latest_of;
+use waterfall::Outcome;
 use waterfall::Register;
 ghost use mathlib.Core.Path.{_≡_};
 ghost use lib.ListN.{length};
+ghost use Rattle.words.specs.Bytes.{part};
 ghost use Rattle.waterfall.specs.Register.{GivenBack};
+ghost use Rattle.drill.specs.Drill.{appliedOf};
+ghost use Rattle.lines.specs.Defaults.{handedOf};
+
+// A call, with those of the typed ranks that go with it.
+fn answer(register: Register, call: DrillCall, ranks: &[u8], slip: &mut [u64]) -> Outcome
+    requires { ⌜ GivenBack register ⌝ }
+    ensures { λ r. ⌜ r ≡ appliedOf register call (part (now (ranks .entry)) 0 (handedOf call)) (now (slip .entry)) ⌝ }
+    ensures { λ r. ⌜ GivenBack (r .register) ⌝ }
+{
+    drill::apply(
+        register,
+        call,
+        words::part(ranks, 0, lines::handed(call)),
+        slip,
+    )
+}
 
 // Answers the lines, behind the answers that are kept. The turns are counted down from a number that no run uses up.
 fn drill(
@@ -28,7 +47,7 @@ fn drill(
     out: &mut [u8],
 )
     requires { ⌜ GivenBack first ⌝ }
-    requires { ⌜ (length (now ranks) ≡ 64) × (length (now slip) ≡ 128) × (length (now out) ≡ 65536) ⌝ }
+    requires { ⌜ (length (now ranks) ≡ 256) × (length (now slip) ≡ 128) × (length (now out) ≡ 65536) ⌝ }
 {
     let mut register = first;
     let mut latest = Latest::NoDefault;
@@ -58,7 +77,7 @@ fn drill(
             Line::Register => put_register(out, at, register),
             Line::Page => put_page(out, at, latest),
             Line::Call(call) => {
-                let done = drill::apply(register, call, ranks, slip);
+                let done = answer(register, call, ranks, slip);
                 let reply = done.reply;
                 let after = done.register;
                 register = after;
@@ -76,7 +95,7 @@ fn run(sheet: &[u8], own: u64) {
     let register = opened.register;
     let mut chunk = [0u8; 65536];
     let mut line = [0u8; 4096];
-    let mut ranks = [255u8; 64];
+    let mut ranks = [255u8; 256];
     let mut slip = [0u64; 128];
     let mut out = [0u8; 65536];
     let n = print_refusal::put_opening(&mut out, refusal);

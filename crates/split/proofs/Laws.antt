@@ -4,7 +4,7 @@ use mathlib.Core.Path.{_≡_, refl, ap, sym, _∙_}
 use mathlib.Core.Bool.{false, _||_}
 use mathlib.Core.List.{List, [], _∷_, _++_}
 use mathlib.Core.Logic.{⊎-elim}
-use native.Mathlib.Nat.{mul-add, mul-comm, zero-mul, zero-div, mul-le-mul-left, mul-le-mul-right, div-le-of-le-mul, mul-div-right, mul-div-left, le-div-iff-mul-le, eq-zero-or-pos, sub-zero}
+use native.Mathlib.Nat.{mul-add, mul-comm, zero-mul, zero-div, mul-le-mul, mul-le-mul-left, mul-le-mul-right, div-le-of-le-mul, mul-div-right, mul-div-left, le-div-iff-mul-le, eq-zero-or-pos, sub-zero}
 use native.Mathlib.Numerals.{add-one}
 use native.Mathlib.Omega.{arith}
 use borrow.Author.Tests.{le-ltb}
@@ -16,7 +16,7 @@ use Rattle.lists.specs.Sums.{total}
 use Rattle.lists.proofs.Fill.{fill-turn, fill-done}
 use Rattle.lists.proofs.Sums.{getD-le-total}
 use Rattle.split.specs.Split.{shareOf, splitOf, exceeds}
-use Rattle.split.specs.Parts.{Splits}
+use Rattle.split.specs.Parts.{Splits, productLimit}
 
 -- one share ------------------------------------------------------------------
 
@@ -36,7 +36,7 @@ unfolding shareOf
 share-none l w t e = rw e (simp (zero-mul, zero-div))
 
 -- the last weight takes what is left
-share-last : (l w : ℕ) → 0 < w → shareOf l w w ≡ l
+pub share-last : (l w : ℕ) → 0 < w → shareOf l w w ≡ l
 unfolding shareOf
 share-last l w h = mul-div-right l h
 
@@ -199,8 +199,12 @@ exceeds-none (s ∷ shares) (w ∷ weights) h = rw (le-ltb w s (h 0), exceeds-no
 
 -- what a split asks -----------------------------------------------------------
 
+-- a sum over amounts, and an amount over sums: the product is the same
+pub products-fit : (a b : ℕ) → a ≤ amountLimit → b ≤ allocationLimit → (a * b ≤ productLimit) × (b * a ≤ productLimit)
+products-fit a b p q = let h = mul-le-mul p q in (h, omega (arith, h, mul-comm b a))
+
 -- a split over weights that were copied, where what it asks is known of those themselves
 pub splits-as : (sum whole : ℕ) (found weights shares : List ℕ) → found ≡ weights → sum ≤ allocationLimit → whole ≡ total weights → ((k : ℕ) → getD weights k 0 ≤ amountLimit)
     → length weights ≡ memberLimit → length shares ≡ memberLimit → Splits sum whole found shares
 splits-as sum whole found weights shares e s w f l m =
-    rw e record { sum-fits = s; whole-is = w; weights-fit = f; few = omega arith; as-many = m ∙ sym l }
+    rw e record { products-fit = λ k. products-fit (getD weights k 0) sum (f k) s .0; whole-is = w; few = omega arith; as-many = m ∙ sym l }

@@ -1,13 +1,12 @@
 // A sum shared over weights in rising order, each share rounded down: document 01, "The split".
 ghost use mathlib.Core.Path.{_≡_};
-ghost use Prim.Native.Nat.{_≤_};
-ghost use Rattle.lists.specs.Limits.{amountLimit, allocationLimit};
+ghost use Prim.Native.Nat.{_*_, _≤_};
 ghost use Rattle.split.specs.Split.{shareOf, splitOf, exceeds};
-ghost use Rattle.split.specs.Parts.{Splits};
+ghost use Rattle.split.specs.Parts.{Splits, productLimit};
 
-// One weight's share of what is left of the sum. A weight of 0 takes nothing, and costs no division.
-fn share(left: u64, weight: u64, rest: u64) -> u64
-    requires { ⌜ (weight ≤ amountLimit) × (left ≤ allocationLimit) × (weight ≤ rest) ⌝ }
+// One weight's share of what is left of the sum: a turn of the split. A weight of 0 takes nothing, and costs no division.
+pub fn share(left: u64, weight: u64, rest: u64) -> u64
+    requires { ⌜ (weight * left ≤ productLimit) × (weight ≤ rest) ⌝ }
     ensures { λ r. ⌜ r ≡ shareOf left weight rest ⌝ }
 {
     if weight == 0 {

@@ -1,3 +1,4 @@
 -- The definitions that the contracts cite.
 pub mod TypedRanks
+pub mod Pools
 pub mod Parts

@@ -1,11 +1,11 @@
 -- Ranks as they are typed: "each `M:R` gives a rank. A member that is not named, or is named as `M:` with a blank rank, has the missing rank 255"
-use Prim.Native.Nat.{ℕ, suc, _-_}
+use Prim.Native.Nat.{ℕ, suc, _-_, _*_}
 use mathlib.Core.Path.{_≡_, refl}
 use mathlib.Core.Bool.{Bool, true, false, _&&_}
 use mathlib.Core.List.{List, [], _∷_}
 use lib.Dec.{eqb, ltb}
 use lib.ListN.{length, getD, drop, set, replicate}
-use Rattle.lists.specs.Limits.{memberLimit}
+use Rattle.lists.specs.Limits.{memberLimit, poolLimit}
 use Rattle.lists.specs.Checks.{check}
 use Rattle.lists.specs.Texts.{ascii}
 use Rattle.numbers.specs.Numbers.{readOf}
@@ -35,6 +35,10 @@ rankOf word =
 -- a member that is not named has the missing rank
 abbrev pub missingRanks : List ℕ
 missingRanks = replicate memberLimit 255
+
+-- the ranks of four pools, one behind the other, where none is given
+unfoldable pub noRanks : List ℕ
+noRanks = replicate (poolLimit * memberLimit) 255
 
 -- no member is named yet
 abbrev pub unnamed : List ℕ

@@ -10,14 +10,12 @@ use Rattle.lists.specs.Sums.{total, minus, keep}
 use Rattle.lists.proofs.Places.{set-all, set-both}
 use Rattle.lists.proofs.Sums.{getD-zeros, getD-plus, getD-minus, length-plus, length-minus, length-keep, unkept, getD-le-total}
 use Rattle.split.proofs.Laws.{length-split}
-use Rattle.ranks.proofs.Laws.{length-charges}
 use Rattle.figures.specs.Figures.{live, inDefault, figure, replace, none, others}
 use Rattle.waterfall.specs.Register.{emptyRegister, GivenBack}
 use Rattle.waterfall.specs.Calls.{paidOf, replenishedOf, closedOf}
-use Rattle.waterfall.specs.Default.{roomsOf, onMargin, onContribution, charges, onCalls, calls, after3, settledOf, defaultRefusal}
+use Rattle.waterfall.specs.Default.{standingOf, roomsOf, onMargin, onContribution, onCalls, calls, settledOf}
 use Rattle.waterfall.specs.declared.Register.{Register}
 use Rattle.figures.proofs.Figures.{figure-le-at}
-use Rattle.admission.proofs.Admitted.{admitted}
 use Rattle.waterfall.proofs.Default.{unmarked, rooms-within, calls-within}
 
 pub given-empty : GivenBack emptyRegister
@@ -133,35 +131,31 @@ module _ (r : Register) (g : GivenBack r) where
       let m : length (minus (r .cap) (r .called)) ≡ memberLimit = length-minus (r .cap) (r .called) ∙ g .cap-length in
       length-keep (others (r .status) member) (minus (r .cap) (r .called)) (length-others member ∙ sym m) ∙ m
 
-  pub length-calls : (member loss : ℕ) (ranks : List ℕ) → length (calls r member loss ranks) ≡ memberLimit
+  pub length-calls : (member loss : ℕ) (charged : List ℕ) → length (calls r member loss charged) ≡ memberLimit
   unfolding calls
-  length-calls member loss ranks = length-split (onCalls r member loss ranks) (roomsOf r member) ∙ length-rooms member
+  length-calls member loss charged = length-split (onCalls r member loss charged) (roomsOf r member) ∙ length-rooms member
 
-  pub length-charged : (member loss : ℕ) (ranks : List ℕ) → length ranks ≡ memberLimit → length (charges r member loss ranks) ≡ memberLimit
-  unfolding charges
-  length-charged member loss ranks e =
-      let m : length (keep (others (r .status) member) (r .contribution)) ≡ memberLimit = length-keep (others (r .status) member) (r .contribution) (length-others member ∙ sym (g .contribution-length)) ∙ g .contribution-length in
-      length-charges (after3 r member loss) (keep (others (r .status) member) (r .contribution)) ranks (e ∙ sym m) ∙ m
+  pub length-standing : (member : ℕ) → length (standingOf r member) ≡ memberLimit
+  length-standing member = length-keep (others (r .status) member) (r .contribution) (length-others member ∙ sym (g .contribution-length)) ∙ g .contribution-length
 
   -- a member that is in default, the defaulter too, is not called
-  pub uncalled : (member loss : ℕ) (ranks : List ℕ) (k : ℕ) → getD (replace (r .status) member inDefault) k 0 ≡ inDefault → getD (calls r member loss ranks) k 0 ≡ 0
+  pub uncalled : (member loss : ℕ) (charged : List ℕ) (k : ℕ) → getD (replace (r .status) member inDefault) k 0 ≡ inDefault → getD (calls r member loss charged) k 0 ≡ 0
   unfolding roomsOf
-  uncalled member loss ranks k e =
+  uncalled member loss charged k e =
       omega (
         arith,
-        calls-within r member loss ranks k,
+        calls-within r member loss charged k,
         unkept (others (r .status) member) (minus (r .cap) (r .called)) k (unmarked r member k e),
       )
 
-  pub given-settled : (member loss : ℕ) (ranks : List ℕ) → length ranks ≡ memberLimit → GivenBack (settledOf r member loss ranks)
+  pub given-settled : (member loss : ℕ) (charged : List ℕ) → GivenBack (settledOf r member loss charged)
   unfolding settledOf
-  given-settled member loss ranks e =
+  given-settled member loss charged =
       let called : List ℕ = r .called in
-      let calling : List ℕ = calls r member loss ranks in
-      let charged : List ℕ = charges r member loss ranks in
+      let calling : List ℕ = calls r member loss charged in
       let room : (k : ℕ) → getD calling k 0 ≤ getD (r .cap) k 0 - getD called k 0 =
-      λ k. omega (arith, calls-within r member loss ranks k, rooms-within r member k) in
-      let lc : length calling ≡ memberLimit = length-calls member loss ranks in
+      λ k. omega (arith, calls-within r member loss charged k, rooms-within r member k) in
+      let lc : length calling ≡ memberLimit = length-calls member loss charged in
       let lo : length (replace (r .outstanding) member 0) ≡ memberLimit = length-set (r .outstanding) (member - 1) 0 ∙ g .outstanding-length in
       let own : List ℕ = replace (r .contribution) member (figure (r .contribution) member - onContribution r member loss) in
       record {
@@ -190,14 +184,9 @@ module _ (r : Register) (g : GivenBack r) where
             omega (
               arith,
               getD-plus (replace (r .outstanding) member 0) calling k,
-              uncalled member loss ranks k s,
+              uncalled member loss charged k s,
               set-both (λ n a b. a ≡ inDefault → b ≡ 0) (r .status) (r .outstanding) (member - 1) inDefault 0
                   (g .status-length ∙ sym (g .outstanding-length)) (g .defaulter-owes-none) (λ _. refl) k s,
             );
         tranches-fit = omega (arith, g .tranches-fit);
       }
-
-pub given-default : (r : Register) (member loss : ℕ) (ranks slip : List ℕ) → GivenBack r → defaultRefusal r member loss ranks slip ≡ 0 → GivenBack (settledOf r member loss ranks)
-unfolding defaultRefusal
-given-default r member loss ranks slip g e =
-    given-settled r g member loss ranks (admitted (r .status) member loss ranks (length slip) _ e .ranks-length)

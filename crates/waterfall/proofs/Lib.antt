@@ -2,5 +2,7 @@
 pub mod Answer
 pub mod Default
 pub mod Given
+pub mod Pooled
 pub mod Entered
 pub mod Placing
+pub mod OnePool

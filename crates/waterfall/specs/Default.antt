@@ -1,4 +1,5 @@
--- Document 01, "Declaring a default": what a default of a member does, layer by layer.
+-- Document 01, "Declaring a default": what a default of a member does, layer by layer. Layer 4's charges are those of one pool here, by rank over
+-- standing contributions; those of several pools (document 02, request 3), and the default that the calls make, are in Pools.antt. The other layers are the same.
 use Prim.Native.Nat.{ℕ, _+_, _-_}
 use mathlib.Core.Bool.{Bool, _||_}
 use mathlib.Core.List.{List, _++_}
@@ -10,7 +11,7 @@ use Rattle.split.specs.Split.{splitOf, exceeds}
 use Rattle.ranks.specs.Ranks.{chargesOf}
 use Rattle.figures.specs.Figures.{inDefault, figure, replace, others}
 use Rattle.admission.specs.Admission.{admission}
-use Rattle.layers.specs.Layers.{gives, rooms}
+use Rattle.rooms.specs.Rooms.{gives, rooms}
 use Rattle.waterfall.specs.Reply.{judged}
 use Rattle.waterfall.specs.declared.Register.{Register}
 use Rattle.waterfall.specs.declared.Allocation.{Allocation}
@@ -20,6 +21,10 @@ use Rattle.waterfall.specs.declared.Outcome.{Outcome}
 -- "the fallen call": the defaulter's outstanding call
 unfoldable pub fallenCall : Register → ℕ → ℕ
 fallenCall r member = figure (r .outstanding) member
+
+-- "other live members' contributions", and 0 for everyone else
+abbrev pub standingOf : Register → ℕ → List ℕ
+standingOf r member = keep (others (r .status) member) (r .contribution)
 
 -- the other live members' rooms: "cap minus what was called since the last close"
 unfoldable pub roomsOf : Register → ℕ → List ℕ
@@ -67,14 +72,10 @@ module _ (r : Register) (member loss : ℕ) where
   unfoldable pub after3 : ℕ
   after3 = after2 - onTranche1
 
-  module _ (ranks : List ℕ) where
-    -- 4. "other live members' contributions: the next rank charged is the highest not yet charged, and equal ranks share by the split over
-    -- standing contributions"
-    unfoldable pub charges : List ℕ
-    charges = chargesOf after3 (keep (others (r .status) member) (r .contribution)) ranks
-
+  -- 4. "other live members' contributions", which are charged `charged`, by member
+  module _ (charged : List ℕ) where
     unfoldable pub after4 : ℕ
-    after4 = after3 - total charges
+    after4 = after3 - total charged
 
     -- 5. "the second tranche"
     unfoldable pub onTranche2 : ℕ
@@ -101,33 +102,39 @@ module _ (r : Register) (member loss : ℕ) where
           margin = onMargin;
           contribution = onContribution;
           tranche1 = onTranche1;
-          members = total charges;
+          members = total charged;
           tranche2 = onTranche2;
           calls = onCalls;
           short = shortfall;
         }
 
     unfoldable pub settledOf : Register
-    settledOf = settledBy r member onMargin onContribution onTranche1 onTranche2 charges calls
+    settledOf = settledBy r member onMargin onContribution onTranche1 onTranche2 charged calls
 
 -- 19. "A share comes out above the pocket, or in layer 6 the rest of the cap, it is drawn from."
 abbrev pub overdrawn : Register → ℕ → ℕ → List ℕ → Bool
-overdrawn r member loss ranks =
-    exceeds (charges r member loss ranks) (r .contribution) || exceeds (calls r member loss ranks) (roomsOf r member)
+overdrawn r member loss charged = exceeds charged (r .contribution) || exceeds (calls r member loss charged) (roomsOf r member)
+
+-- "The slip's first 64 numbers receive each member's layer 4 charge, the next 64 its call, zero where none; further numbers stay."
+abbrev pub slipOf : Register → ℕ → ℕ → List ℕ → List ℕ → List ℕ
+slipOf r member loss charged slip = charged ++ calls r member loss charged ++ drop (memberLimit + memberLimit) slip
+
+-- one pool -----------------------------------------------------------------------
+
+-- 4. "the next rank charged is the highest not yet charged, and equal ranks share by the split over standing contributions"
+unfoldable pub charges : Register → ℕ → ℕ → List ℕ → List ℕ
+charges r member loss ranks = chargesOf (after3 r member loss) (standingOf r member) ranks
 
 -- 11 to 15, then 19
 unfoldable pub defaultRefusal : Register → ℕ → ℕ → List ℕ → List ℕ → ℕ
 defaultRefusal r member loss ranks slip =
     admission (r .status) member loss ranks (length slip)
-    (check (overdrawn r member loss ranks) 19
+    (check (overdrawn r member loss (charges r member loss ranks)) 19
     0)
 
 unfoldable pub defaultOf : Register → ℕ → ℕ → List ℕ → List ℕ → Outcome
 defaultOf r member loss ranks slip =
-    judged (defaultRefusal r member loss ranks slip) r (Allocated (allocationOf r member loss ranks)) (settledOf r member loss ranks)
+    judged (defaultRefusal r member loss ranks slip) r (Allocated (allocationOf r member loss (charges r member loss ranks))) (settledOf r member loss (charges r member loss ranks))
 
--- "The slip's first 64 numbers receive each member's layer 4 charge, the next 64 its call, zero where none; further numbers stay."
 unfoldable pub defaultSlip : Register → ℕ → ℕ → List ℕ → List ℕ → List ℕ
-defaultSlip r member loss ranks slip =
-    check (refuses (defaultRefusal r member loss ranks slip)) slip
-    (charges r member loss ranks ++ calls r member loss ranks ++ drop (memberLimit + memberLimit) slip)
+defaultSlip r member loss ranks slip = check (refuses (defaultRefusal r member loss ranks slip)) slip (slipOf r member loss (charges r member loss ranks) slip)

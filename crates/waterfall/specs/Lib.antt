@@ -3,6 +3,7 @@ pub mod Register
 pub mod Opening
 pub mod Reply
 pub mod Default
+pub mod Pools
 pub mod Calls
 pub mod View
 pub mod Parts

@@ -1,8 +1,9 @@
-// Document 01, "Declaring a default".
+// Document 01, "Declaring a default", and document 02, request 3: with its pools.
 use crate::Allocation;
 use crate::Outcome;
 use crate::Register;
 use crate::Reply;
+use admission::Pools;
 use admission::default_refusal;
 use figures::add_to;
 use figures::defaulted;
@@ -13,23 +14,23 @@ use layers::tell;
 ghost use mathlib.Core.Path.{_≡_};
 ghost use Rattle.waterfall.specs.Register.{GivenBack};
 ghost use Rattle.waterfall.specs.Reply.{Says};
-ghost use Rattle.waterfall.specs.Default.{allocationOf, defaultRefusal, defaultOf, defaultSlip};
+ghost use Rattle.waterfall.specs.Pools.{pooledAllocation, pooledRefusal, pooledOf, pooledSlip};
 
 pub fn declare(
     mut register: Register,
     member: u64,
-    loss: u64,
+    pools: Pools,
     ranks: &[u8],
     slip: &mut [u64],
 ) -> Outcome
     requires { ⌜ GivenBack register ⌝ }
-    ensures { λ r. ⌜ r ≡ defaultOf register member loss (now (ranks .entry)) (now (slip .entry)) ⌝ }
-    ensures { λ r. ⌜ now (slip .exit) ≡ defaultSlip register member loss (now (ranks .entry)) (now (slip .entry)) ⌝ }
+    ensures { λ r. ⌜ r ≡ pooledOf register member pools (now (ranks .entry)) (now (slip .entry)) ⌝ }
+    ensures { λ r. ⌜ now (slip .exit) ≡ pooledSlip register member pools (now (ranks .entry)) (now (slip .entry)) ⌝ }
     ensures { λ r. ⌜ GivenBack (r .register) ⌝ }
-    ensures { λ r. ⌜ Says (r .reply) (defaultRefusal register member loss (now (ranks .entry)) (now (slip .entry))) (allocationOf register member loss (now (ranks .entry))) ⌝ }
+    ensures { λ r. ⌜ Says (r .reply) (pooledRefusal register member pools (now (ranks .entry)) (now (slip .entry))) (pooledAllocation register member pools (now (ranks .entry))) ⌝ }
 {
     let status = register.status;
-    let number = default_refusal(status, member, loss, ranks, slip.len());
+    let number = default_refusal(status, member, pools, ranks, slip.len());
     if 0 < number {
         return Outcome {
             reply: Reply::Refused(number),
@@ -47,7 +48,7 @@ pub fn declare(
         register.tranche1,
         register.tranche2,
         member,
-        loss,
+        pools,
         ranks,
     );
     if placed.over {

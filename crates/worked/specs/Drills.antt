@@ -12,8 +12,11 @@ use Rattle.sheets.specs.Members.{outside, missing, excessive, entryOf}
 use Rattle.sheets.specs.Sheet.{missized, memberRefusalFrom, memberRefusal}
 use Rattle.waterfall.specs.Opening.{tranche1Of, tranche2Of, openingRegister, openingRefusal, openedOf}
 use Rattle.figures.specs.Figures.{others}
-use Rattle.admission.specs.Admission.{misranked}
-use Rattle.waterfall.specs.Default.{roomsOf, fallenCall, toPlace, onMargin, after1, onContribution, after2, onTranche1, after3, charges, after4, onTranche2, after5, onCalls, calls, shortfall, allocationOf, settledOf, defaultRefusal, defaultOf, defaultSlip}
+use Rattle.admission.specs.Admission.{misranked, excessiveLosses, poolsMisranked}
+use Rattle.admission.specs.declared.Pools.{Pools}
+use Rattle.pools.specs.Pools.{lossesAfter, firstLeft, joinedPool, sumsOf, chargesIn, chargesUpTo, chargesTogether, unmet, stillStanding, tied, chargesByPools}
+use Rattle.waterfall.specs.Default.{roomsOf, fallenCall, toPlace, onMargin, after1, onContribution, after2, onTranche1, after3, after4, onTranche2, after5, onCalls, calls, shortfall, allocationOf, settledOf}
+use Rattle.waterfall.specs.Pools.{givenBefore, poolSums, pooledCharges, pooledAllocation, pooledRefusal, pooledOf, pooledSlip}
 use Rattle.waterfall.specs.Reply.{judged}
 use Rattle.waterfall.specs.declared.Register.{Register}
 use Rattle.waterfall.specs.declared.Outcome.{Outcome}
@@ -45,15 +48,19 @@ slip = replicate 128 0
 unfoldable pub ranked : ℕ → ℕ → ℕ → ℕ → List ℕ
 ranked a b c d = a ∷ b ∷ c ∷ d ∷ replicate 60 255
 
+-- a default with one pool
+unfoldable pub onePool : ℕ → Pools
+onePool loss = record { count = 1; loss1 = loss; loss2 = 0; loss3 = 0; loss4 = 0 }
+
 -- "Default of 1, loss 100,000, ranks 2:1, 3:2, 4:2", "Next default of 3, loss 60,000, ranks 2:1, 4:1", "Next default of 2, loss 0, rank 4:1"
 unfoldable pub default1 : Outcome
-default1 = defaultOf register 1 100_000 (ranked 255 1 2 2) slip
+default1 = pooledOf register 1 (onePool 100_000) (ranked 255 1 2 2) slip
 
 unfoldable pub default2 : Outcome
-default2 = defaultOf (default1 .register) 3 60_000 (ranked 255 1 255 1) slip
+default2 = pooledOf (default1 .register) 3 (onePool 60_000) (ranked 255 1 255 1) slip
 
 unfoldable pub default3 : Outcome
-default3 = defaultOf (default2 .register) 2 0 (ranked 255 255 255 1) slip
+default3 = pooledOf (default2 .register) 2 (onePool 0) (ranked 255 255 255 1) slip
 
 -- the six layers with fallen call and shortfall
 unfoldable pub answers : ℕ → ℕ → ℕ → ℕ → ℕ → ℕ → ℕ → ℕ → Reply
@@ -70,9 +77,9 @@ answers fallen l1 l2 l3 l4 l5 l6 short =
     })
 
 pub three-defaults : (default1 .reply ≡ answers 0 50_000 20_000 13_200 16_800 0 0 0)
-    × (take 4 (defaultSlip register 1 100_000 (ranked 255 1 2 2) slip) ≡ 0 ∷ 0 ∷ 5_600 ∷ 11_200 ∷ [])
+    × (take 4 (pooledSlip register 1 (onePool 100_000) (ranked 255 1 2 2) slip) ≡ 0 ∷ 0 ∷ 5_600 ∷ 11_200 ∷ [])
     × (default2 .reply ≡ answers 0 0 4_400 0 38_800 8_800 8_000 0)
-    × (take 4 (drop 64 (defaultSlip (default1 .register) 3 60_000 (ranked 255 1 255 1) slip)) ≡ 0 ∷ 8_000 ∷ 0 ∷ 0 ∷ [])
+    × (take 4 (drop 64 (pooledSlip (default1 .register) 3 (onePool 60_000) (ranked 255 1 255 1) slip)) ≡ 0 ∷ 8_000 ∷ 0 ∷ 0 ∷ [])
     × (default3 .reply ≡ answers 8_000 0 0 0 0 0 0 8_000)
-unfolding sheet row amount register slip ranked default1 default2 default3 answers openedOf openingRefusal memberRefusal memberRefusalFrom entryOf outside missing excessive missized le32 check openingRegister columnsOf columnsFrom judged defaultOf defaultSlip defaultRefusal misranked exceeds roomsOf fallenCall toPlace onMargin after1 onContribution after2 onTranche1 after3 charges after4 onTranche2 after5 onCalls calls shortfall allocationOf settledOf chargesOf chargesFrom splitOf shareOf
+unfolding sheet row amount register slip ranked default1 default2 default3 answers openedOf openingRefusal memberRefusal memberRefusalFrom entryOf outside missing excessive missized le32 check openingRegister columnsOf columnsFrom judged pooledOf pooledSlip pooledRefusal pooledAllocation pooledCharges poolSums givenBefore onePool excessiveLosses poolsMisranked misranked exceeds roomsOf fallenCall toPlace onMargin after1 onContribution after2 onTranche1 after3 after4 onTranche2 after5 onCalls calls shortfall allocationOf settledOf lossesAfter firstLeft joinedPool sumsOf chargesIn chargesUpTo chargesTogether unmet stillStanding tied chargesByPools chargesOf chargesFrom splitOf shareOf
 three-defaults = (refl, refl, refl, refl, refl)

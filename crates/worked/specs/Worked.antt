@@ -8,8 +8,8 @@ use Rattle.split.specs.Examples.{split-of-5, split-of-6, split-of-10, split-ove
 use Rattle.sizing.specs.Fund.{targetOf, minimumOf, ownOf, quantumOf}
 use Rattle.sizing.specs.Review.{reviewDue}
 use Rattle.sizing.specs.Examples.{annex, annex-floor, no-review, review}
-use Rattle.waterfall.specs.Default.{defaultSlip}
-use Rattle.worked.specs.Drills.{register, ranked, slip, default1, default2, default3, answers, three-defaults}
+use Rattle.waterfall.specs.Pools.{pooledSlip}
+use Rattle.worked.specs.Drills.{register, ranked, slip, onePool, default1, default2, default3, answers, three-defaults}
 
 pub starred :
     -- "Split of 5 over 3, 3, 4: 1, 1, 3. Of 6: 1, 2, 3. Of 10: 3, 3, 4. Of 5 over 0, 5: 0, 5."
@@ -27,9 +27,9 @@ pub starred :
     -- "Default of 1, loss 100,000 ..": fallen call, six layers, shortfall; "member 3 gives 5,600, member 4 11,200"; "Next default of 3, loss 60,000
     -- ..; member 2 is called"; "Next default of 2, loss 0 ..: fallen 8,000, shortfall 8,000"
     × ((default1 .reply ≡ answers 0 50_000 20_000 13_200 16_800 0 0 0)
-    × (take 4 (defaultSlip register 1 100_000 (ranked 255 1 2 2) slip) ≡ 0 ∷ 0 ∷ 5_600 ∷ 11_200 ∷ [])
+    × (take 4 (pooledSlip register 1 (onePool 100_000) (ranked 255 1 2 2) slip) ≡ 0 ∷ 0 ∷ 5_600 ∷ 11_200 ∷ [])
     × (default2 .reply ≡ answers 0 0 4_400 0 38_800 8_800 8_000 0)
-    × (take 4 (drop 64 (defaultSlip (default1 .register) 3 60_000 (ranked 255 1 255 1) slip)) ≡ 0 ∷ 8_000 ∷ 0 ∷ 0 ∷ [])
+    × (take 4 (drop 64 (pooledSlip (default1 .register) 3 (onePool 60_000) (ranked 255 1 255 1) slip)) ≡ 0 ∷ 8_000 ∷ 0 ∷ 0 ∷ [])
     × (default3 .reply ≡ answers 8_000 0 0 0 0 0 0 8_000))
 starred = (
   split-of-5,

@@ -13,6 +13,9 @@ use std::path::{Path, PathBuf};
 use std::sync::atomic::{AtomicBool, AtomicU64, Ordering};
 use std::sync::Mutex;
 
+/// A run of so many drills and more comes to all that their pools can come to.
+const MANY_DRILLS: u64 = 1_000;
+
 pub struct Options {
     pub bin: PathBuf,
     pub seed: u64,
@@ -151,10 +154,13 @@ pub fn compare(options: &Options) -> io::Result<bool> {
         print!("{fault}");
         return Ok(false);
     }
-    run.coverage
-        .into_inner()
-        .expect("no worker panicked")
-        .print();
+    let coverage = run.coverage.into_inner().expect("no worker panicked");
+    coverage.print();
+    let unreached = coverage.unreached();
+    if options.only.is_none() && options.drills >= MANY_DRILLS && !unreached.is_empty() {
+        println!("never reached: {}", unreached.join(", "));
+        return Ok(false);
+    }
     match options.only {
         Some(number) => println!("compared case {number}, no difference"),
         None => println!(

@@ -5,7 +5,7 @@ use crate::ledger::Tally;
 
 #[derive(Clone, Default)]
 pub struct Coverage {
-    refusals: [u64; 21],
+    refusals: [u64; 23],
     layers: [u64; 6],
     fallen: u64,
     shortfalls: u64,
@@ -44,12 +44,17 @@ impl Coverage {
         self.tally.closes += tally.closes;
         self.tally.most_junior += tally.most_junior;
         self.tally.too_junior += tally.too_junior;
+        add(&mut self.tally.pools, tally.pools);
+        add(&mut self.tally.pools_accepted, tally.pools_accepted);
+        self.tally.tied += tally.tied;
+        add(&mut self.tally.joined, tally.joined);
+        self.tally.later_loss += tally.later_loss;
+        self.tally.later_rank += tally.later_rank;
     }
 
     pub fn merge(&mut self, other: &Coverage) {
-        let pairs = self.refusals.iter_mut().zip(other.refusals);
-        let layers = self.layers.iter_mut().zip(other.layers);
-        pairs.chain(layers).for_each(|(sum, more)| *sum += more);
+        add(&mut self.refusals, other.refusals);
+        add(&mut self.layers, other.layers);
         self.fallen += other.fallen;
         self.shortfalls += other.shortfalls;
         self.all_layers += other.all_layers;
@@ -59,6 +64,28 @@ impl Coverage {
         self.pages += other.pages;
         self.no_pages += other.no_pages;
         self.add_tally(other.tally);
+    }
+
+    /// What many drills come to in their pools, and these never did.
+    pub fn unreached(&self) -> Vec<&'static str> {
+        let t = &self.tally;
+        let times = [
+            ("one pool", t.pools_accepted[0]),
+            ("two pools", t.pools_accepted[1]),
+            ("three pools", t.pools_accepted[2]),
+            ("four pools", t.pools_accepted[3]),
+            ("five pools", t.pools[4]),
+            ("the last tie", t.tied),
+            ("a fallen call that joins pool 1", t.joined[0]),
+            ("a fallen call that joins a later pool", t.joined[1]),
+            ("a fallen call where no loss is left", t.joined[2]),
+            ("refusal 13 for a later pool", t.later_loss),
+            ("refusal 15 for a later pool", t.later_rank),
+            ("refusal 21", self.refusals[21]),
+            ("refusal 22", self.refusals[22]),
+        ];
+        let never = times.into_iter().filter(|&(_, times)| times == 0);
+        never.map(|(what, _)| what).collect()
     }
 
     fn add_refusal(&mut self, number: &str) {
@@ -79,7 +106,7 @@ impl Coverage {
 
     pub fn print(&self) {
         println!("refusal  times");
-        for number in 1..=20 {
+        for number in 1..=22 {
             println!("{number:>7}  {}{}", self.refusals[number], remark(number));
         }
         println!("layer    accepted defaults that drew on it");
@@ -100,9 +127,30 @@ impl Coverage {
             MOST_JUNIOR + 1,
             t.too_junior
         );
+        println!("    pools  defaults, accepted ones");
+        for (place, (times, accepted)) in t.pools.iter().zip(t.pools_accepted).enumerate() {
+            let pools = ["1", "2", "3", "4", "5 or more"][place];
+            println!("{pools:>9}  {times}, {accepted}");
+        }
+        println!("defaults that came to the last tie: {}", t.tied);
+        println!(
+            "fallen calls that joined pool 1: {}; a later pool: {}; pool 1 where no loss was left: {}",
+            t.joined[0], t.joined[1], t.joined[2]
+        );
+        println!(
+            "refused for a later pool alone, 13: {}; 15: {}",
+            t.later_loss, t.later_rank
+        );
         println!("unreadable lines: {}", self.unreadable);
         println!("pages: {}, no page: {}", self.pages, self.no_pages);
     }
+}
+
+/// Adds numbers to others, place by place.
+fn add<const N: usize>(sums: &mut [u64; N], more: [u64; N]) {
+    sums.iter_mut()
+        .zip(more)
+        .for_each(|(sum, more)| *sum += more);
 }
 
 /// Refusals that no program can be brought to print.
@@ -144,7 +192,7 @@ mod tests {
             let out = run_sizing(&case.stress, &case.shares, case.prevailing, case.available);
             coverage.add_output(&String::from_utf8(out).unwrap());
         }
-        for number in 1..=20 {
+        for number in 1..=22 {
             let reached = coverage.refusals[number] > 0;
             assert_eq!(reached, remark(number).is_empty(), "refusal {number}");
         }
@@ -152,7 +200,31 @@ mod tests {
         assert!(coverage.shortfalls > 100 && coverage.fallen > 100);
         assert!(coverage.all_layers > 100 && coverage.sizings > 100);
         assert!(coverage.pages > 100 && coverage.no_pages > 100);
-        assert!(coverage.tally.most_junior > 100 && coverage.tally.too_junior > 50);
+        let tally = &coverage.tally;
+        assert!(tally.most_junior > 100 && tally.too_junior > 50);
+        assert_eq!(coverage.unreached(), [""; 0]);
+        assert!(tally.pools.iter().all(|&times| times > 100));
+        let (more, accepted) = tally.pools_accepted.split_last().unwrap();
+        assert!(*more == 0 && accepted.iter().all(|&times| times > 100));
+        assert!(tally.tied > 50 && tally.joined.iter().all(|&times| times > 5));
+        assert!(coverage.refusals[21] > 100 && coverage.refusals[22] > 20);
+        assert!(tally.later_loss > 10 && tally.later_rank > 50);
+    }
+
+    #[test]
+    fn what_a_run_did_not_reach() {
+        let mut coverage = Coverage::default();
+        assert_eq!(coverage.unreached().len(), 13);
+        coverage.add_output("refused 21\nrefused 22\n");
+        coverage.add_tally(Tally {
+            pools: [1; 5],
+            pools_accepted: [1, 1, 0, 1, 0],
+            joined: [1; 3],
+            later_loss: 1,
+            later_rank: 1,
+            ..Tally::default()
+        });
+        assert_eq!(coverage.unreached(), ["three pools", "the last tie"]);
     }
 
     /// Before any default, straight after one and after refused ones, twice, and later.

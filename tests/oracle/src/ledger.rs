@@ -1,19 +1,23 @@
 //! Counts statement 3 on a drill, from what was handed in and what was printed.
 //!
 //! Nothing here asks the engine: sums come from the calls and the printed answers,
-//! and what is held or outstanding from the printed registers. A printed page is held to the
-//! printed answer of the latest accepted default.
+//! and what is held or outstanding from the printed registers. What each pool charges is not
+//! printed, and is counted by the rules. A printed page is held to the printed answer of the
+//! latest accepted default.
 
 mod page;
+mod pools;
 
 use self::page::read_page;
-use crate::engine::{Call, MEMBERS, MOST_JUNIOR, RECORD};
+use self::pools::{ByMember, Charged, Found};
+use crate::engine::{Call, MAX_SUM, MEMBERS, MOST_JUNIOR, RECORD};
 use crate::generate::DrillCase;
 use crate::text::{read_line, Lines, Reading};
 use std::collections::BTreeMap;
 use std::iter::Peekable;
 
-/// How many calls of each kind were accepted, and how many defaults read ranks about the limit.
+/// How many calls of each kind were accepted, how many defaults read ranks about the limit, and
+/// what their pools came to.
 #[derive(Clone, Copy, Default)]
 pub struct Tally {
     pub defaults: u64,
@@ -24,6 +28,19 @@ pub struct Tally {
     pub most_junior: u64,
     /// Defaults refused with 15 that read the rank after it.
     pub too_junior: u64,
+    /// Defaults by their count of pools, five and more in the last place.
+    pub pools: [u64; 5],
+    /// Those of them that were accepted.
+    pub pools_accepted: [u64; 5],
+    /// Accepted defaults with charges of the last tie.
+    pub tied: u64,
+    /// Accepted defaults of several pools, with charges, whose fallen call joined pool 1, a later one,
+    /// or pool 1 for want of any loss left.
+    pub joined: [u64; 3],
+    /// Defaults refused with 13 for a later pool alone.
+    pub later_loss: u64,
+    /// Defaults refused with 15 for a later pool alone.
+    pub later_rank: u64,
 }
 
 /// A member: its sheet figures and what has been added up for it.
@@ -44,7 +61,8 @@ struct Account {
 /// An accepted default whose register has still to be printed.
 struct Accepted {
     member: u64,
-    ranks: [u8; MEMBERS],
+    /// 64 for each pool.
+    ranks: Vec<u8>,
     layers: [Sum; 6],
     short: Sum,
     charged: Vec<u64>,
@@ -212,6 +230,9 @@ impl Ledger {
             Reading::Page => return self.show_page(printed),
             Reading::Call(call) => call,
         };
+        if let Call::Default { losses, .. } = &call {
+            self.tally.pools[pools_place(losses)] += 1;
+        }
         if let Some([number]) = printed.take_if::<1>("refused #") {
             self.refused(&call, number);
             return Ok(());
@@ -223,9 +244,9 @@ impl Ledger {
         match call {
             Call::Default {
                 member,
-                loss,
+                losses,
                 ranks,
-            } => return self.declare(member, loss, ranks, printed),
+            } => return self.declare(member, &losses, ranks, printed),
             Call::Payment { member, amount } => {
                 self.account(member)?.paid += amount as Sum;
                 self.tally.payments += 1;
@@ -246,19 +267,52 @@ impl Ledger {
 
     /// A refused call counts for nothing but the tally.
     fn refused(&mut self, call: &Call, number: Sum) {
-        if let (Call::Default { member, ranks, .. }, 15) = (call, number) {
+        let Call::Default {
+            member,
+            losses,
+            ranks,
+        } = call
+        else {
+            return;
+        };
+        if number == 13 {
+            self.tally.later_loss += (losses[0] <= MAX_SUM) as u64;
+        }
+        if number == 15 {
             let read = self.ranks_read(*member, ranks);
-            self.tally.too_junior += read.contains(&(MOST_JUNIOR + 1)) as u64;
+            let too_junior = read.iter().flatten().any(|&rank| rank == MOST_JUNIOR + 1);
+            self.tally.too_junior += too_junior as u64;
+            self.tally.later_rank += outside(&read[0]).is_none() as u64;
         }
     }
 
-    /// The ranks that a default of `member` reads: those of the other live members.
-    fn ranks_read(&self, member: u64, ranks: &[u8; MEMBERS]) -> Vec<u8> {
-        self.accounts
-            .iter()
-            .filter(|(&other, account)| account.live && other != member)
-            .map(|(&other, _)| ranks[other as usize - 1])
+    /// The ranks that a default of `member` reads in each pool: those of the other live members.
+    fn ranks_read(&self, member: u64, ranks: &[u8]) -> Vec<Vec<u8>> {
+        let others = || {
+            let accounts = self.accounts.iter();
+            accounts.filter(|(&other, account)| account.live && other != member)
+        };
+        ranks
+            .chunks(MEMBERS)
+            .map(|pool| others().map(|(&m, _)| pool[m as usize - 1]).collect())
             .collect()
+    }
+
+    /// What the register holds before a default of `member`, by what has been counted so far.
+    fn found(&self, member: u64) -> Counted<Found> {
+        let live = || self.accounts.iter().filter(|(_, account)| account.live);
+        let (_, defaulter) = live()
+            .find(|(&other, _)| other == member)
+            .ok_or_else(|| format!("member {member} is not live"))?;
+        let others = live().filter(|(&other, _)| other != member);
+        let contributions = others.map(|(&other, account)| Ok((other, account.standing()?)));
+        let tranche1 = rest(self.tranches[0], self.tranches_charged[0])?;
+        let margin = rest(defaulter.margin, defaulter.margin_charged)?;
+        Ok(Found {
+            fallen: rest(defaulter.calls, defaulter.paid + defaulter.fallen)?,
+            first_layers: margin + defaulter.standing()? + tranche1,
+            contributions: contributions.collect::<Counted<_>>()?,
+        })
     }
 
     fn account(&mut self, member: u64) -> Counted<&mut Account> {
@@ -271,10 +325,12 @@ impl Ledger {
     fn declare(
         &mut self,
         member: u64,
-        loss: u64,
-        ranks: [u8; MEMBERS],
+        losses: &[u64],
+        ranks: Vec<u8>,
         printed: &mut Printed,
     ) -> Counted {
+        pools::within_limits(losses)?;
+        let by_rule = pools::charge(&self.found(member)?, losses, &ranks);
         let pattern = "accepted fallen # layers # # # # # # short #";
         let [fallen, figures @ ..] = printed.take::<8>(pattern)?;
         self.latest = Some(figures);
@@ -287,32 +343,51 @@ impl Ledger {
         defaulter.contribution_charged += layers[1];
         self.tranches_charged[0] += layers[2];
         self.tranches_charged[1] += layers[4];
-        let charged = self.slip(&layers, printed)?;
+        let slip = self.slip(&layers, printed)?;
         let placed: Sum = layers.iter().sum();
-        self.losses += loss as Sum;
+        let loss: Sum = losses.iter().map(|&loss| loss as Sum).sum();
+        self.losses += loss;
         self.fallen += fallen;
         self.charges += placed;
         self.shortfalls += short;
-        self.tally.defaults += 1;
-        let read = self.ranks_read(member, &ranks);
-        self.tally.most_junior += read.contains(&MOST_JUNIOR) as u64;
-        ensure(loss as Sum + fallen == placed + short, || {
-            format!("loss {loss} and fallen {fallen}, but {placed} placed and {short} short")
+        self.tally_accepted(member, losses, &ranks, &by_rule);
+        ensure(loss + fallen == placed + short, || {
+            format!("losses {loss} and fallen {fallen}, but {placed} placed and {short} short")
         })?;
+        by_rule.in_order()?;
+        by_rule.adds_to(&slip)?;
+        let charged = slip.into_iter().filter(|&(_, charge)| charge > 0);
         self.awaiting = Some(Accepted {
             member,
             ranks,
             layers,
             short,
-            charged,
+            charged: charged.map(|(member, _)| member).collect(),
         });
         Ok(())
     }
 
+    fn tally_accepted(&mut self, member: u64, losses: &[u64], ranks: &[u8], by_rule: &Charged) {
+        let read = self.ranks_read(member, ranks);
+        let most_junior = read.iter().flatten().any(|&rank| rank == MOST_JUNIOR);
+        let tally = &mut self.tally;
+        tally.defaults += 1;
+        tally.pools_accepted[pools_place(losses)] += 1;
+        tally.most_junior += most_junior as u64;
+        tally.tied += by_rule.tied() as u64;
+        match by_rule.joined {
+            _ if losses.len() == 1 || !by_rule.charged() => {}
+            Some((0, true)) => tally.joined[0] += 1,
+            Some((0, false)) => tally.joined[2] += 1,
+            Some(_) => tally.joined[1] += 1,
+            None => {}
+        }
+    }
+
     /// The printed slip: layer 4 charges and calls of live members, within their caps.
-    fn slip(&mut self, layers: &[Sum; 6], printed: &mut Printed) -> Counted<Vec<u64>> {
+    fn slip(&mut self, layers: &[Sum; 6], printed: &mut Printed) -> Counted<ByMember> {
         let (mut charges, mut calls) = (0, 0);
-        let mut charged = Vec::new();
+        let mut charged = ByMember::new();
         while let Some([member, charge, call]) = printed.take_if("member # charged # called #") {
             let member = member as u64;
             let account = self.account(member)?;
@@ -325,9 +400,7 @@ impl Ledger {
             })?;
             charges += charge;
             calls += call;
-            if charge > 0 {
-                charged.push(member);
-            }
+            *charged.entry(member).or_default() += charge;
         }
         ensure((charges, calls) == (layers[3], layers[5]), || {
             format!("slips add to {charges} charged and {calls} called")
@@ -410,11 +483,15 @@ impl Ledger {
         ensure(default.short == 0 || empty.iter().all(|&e| e), || {
             "a shortfall over a layer that is not empty".into()
         })?;
-        let read = self.ranks_read(default.member, &default.ranks);
-        let outside = read.iter().find(|rank| !(1..=MOST_JUNIOR).contains(rank));
-        ensure(outside.is_none(), || {
-            format!("accepted with ranks {read:?}, which go from 1 to {MOST_JUNIOR}")
-        })?;
+        for read in self.ranks_read(default.member, &default.ranks) {
+            ensure(outside(&read).is_none(), || {
+                format!("accepted with ranks {read:?}, which go from 1 to {MOST_JUNIOR}")
+            })?;
+        }
+        // Of several pools the slip shows sums alone, and their ranks are held to what each charges.
+        if default.ranks.len() > MEMBERS {
+            return Ok(());
+        }
         let rank = |member: u64| default.ranks[member as usize - 1];
         for &charged in &default.charged {
             let junior =
@@ -425,6 +502,22 @@ impl Ledger {
         }
         Ok(())
     }
+}
+
+/// A rank that is none of 1 to the most junior.
+fn outside(ranks: &[u8]) -> Option<&u8> {
+    ranks.iter().find(|rank| !(1..=MOST_JUNIOR).contains(rank))
+}
+
+/// Where a tally by count of pools puts these.
+fn pools_place(losses: &[u64]) -> usize {
+    losses.len().min(5) - 1
+}
+
+/// What is left where so much was taken.
+fn rest(opening: Sum, taken: Sum) -> Counted<Sum> {
+    let rest = opening.checked_sub(taken);
+    rest.ok_or_else(|| format!("{taken} were taken of {opening}"))
 }
 
 impl Account {
@@ -442,6 +535,14 @@ impl Account {
             paid: 0,
             fallen: 0,
         }
+    }
+
+    /// The contribution that stands.
+    fn standing(&self) -> Counted<Sum> {
+        rest(
+            self.contribution + self.replenished,
+            self.contribution_charged,
+        )
     }
 
     /// Both pockets and the calls add up with what the register shows.
@@ -495,6 +596,20 @@ mod tests {
         }
     }
 
+    /// Two pools with a last tie, four, and three with a fallen call that joins the second.
+    fn example_of_pools() -> DrillCase {
+        let calls = "\
+            default 1 83201 2:1 3:2 4:2 / 31000 2:2 3:1 4:1\npage\nregister\n\
+            replenishment 2 500\n\
+            default 3 2 2:1 4:1 / 4401 2:2 4:1 / 3 2:1 4:2 / 40000 2:1 4:1\nregister\n\
+            replenishment 4 7777\npayment 2 100\n\
+            default 2 0 4:1 / 10 4:24 / 20 4:1\nregister\npage\n";
+        DrillCase {
+            calls: calls.into(),
+            ..example()
+        }
+    }
+
     #[test]
     fn random_drills_hold() {
         for seed in 0..200 {
@@ -508,7 +623,11 @@ mod tests {
     /// Every number of the example that statement 3 speaks of, changed by one.
     #[test]
     fn a_changed_number_is_seen() {
-        let case = example();
+        changed_numbers_are_seen(example());
+        changed_numbers_are_seen(example_of_pools());
+    }
+
+    fn changed_numbers_are_seen(case: DrillCase) {
         let good = printed(&case);
         assert!(count(&case, &good).is_ok());
         let words: Vec<&str> = good.split_inclusive([' ', '\n']).collect();
@@ -550,6 +669,95 @@ mod tests {
                 assert_eq!(seen, bad, "member {member} with rank {rank}");
             }
         }
+    }
+
+    /// The first pool's ranks are good.
+    #[test]
+    fn an_accepted_rank_of_a_later_pool_is_seen() {
+        let good = printed(&with_rank(1, 1));
+        let with_rank = |member, rank| {
+            let case = with_rank(member, rank);
+            let calls = String::from_utf8(case.calls).unwrap();
+            let pools = " 2 2:1 3:1 4:1 / 2 2:1 3:1 4:1 / 1 ";
+            let calls = calls.replace(" 5 ", pools).into();
+            DrillCase { calls, ..case }
+        };
+        assert_eq!(count(&with_rank(1, 1), &good).err(), None);
+        for rank in 0..=255 {
+            for member in 1..=5 {
+                let bad = (2..=4).contains(&member) && !(1..=24).contains(&rank);
+                let seen = count(&with_rank(member, rank), &good).is_err();
+                assert_eq!(seen, bad, "member {member} with rank {rank}");
+            }
+        }
+    }
+
+    #[test]
+    fn accepted_pools_past_their_limits_are_seen() {
+        let accepted = |pools: &str, loss: u64| {
+            let ranks = " 2:1 3:1 4:1";
+            let calls = format!("default 1 {}{ranks}\nregister\n", pools);
+            let case = |calls: String| DrillCase {
+                calls: calls.replace(" /", &format!("{ranks} /")).into(),
+                ..example()
+            };
+            let one = case(format!("default 1 {loss}{ranks}\nregister\n"));
+            count(&case(calls), &printed(&one))
+        };
+        assert!(accepted("5", 5).is_ok());
+        assert!(accepted("1 / 1 / 1 / 2", 5).is_ok());
+        assert!(accepted("1 / 1 / 1 / 1 / 1", 5).is_err());
+        assert!(accepted("1 / 1 / 1 / 1 / 0 / 1", 5).is_err());
+        assert!(accepted("1 / 1 / 1 / 1", 5).is_err());
+        assert!(accepted("50000 / 10 / 50", 50_060).is_ok());
+        assert!(accepted("25600000000 / 0", 25_600_000_000).is_ok());
+        assert!(accepted("25600000000 / 1", 25_600_000_000).is_err());
+        assert!(accepted("0 / 25600000001", 25_600_000_000).is_err());
+    }
+
+    /// A thousand of one member's charge on another: all sums hold, and so does the register.
+    #[test]
+    fn a_charge_moved_to_another_member_is_seen() {
+        let case = example_of_pools();
+        let good = printed(&case);
+        let changes = [
+            ("member 3 charged 333 ", "member 3 charged 334 "),
+            ("member 4 charged 668 ", "member 4 charged 667 "),
+            ("contribution 9667 ", "contribution 9666 "),
+            ("contribution 19332 ", "contribution 19333 "),
+        ];
+        let (first, rest) = good.split_once("\naccepted\n").unwrap();
+        let mut moved = first.to_string();
+        for (from, to) in changes {
+            assert!(moved.contains(from), "{moved}");
+            moved = moved.replace(from, to);
+        }
+        let why = count(&case, &[&moved, "\naccepted\n", rest].concat()).err();
+        let why = why.unwrap_or_default();
+        assert!(
+            why.contains("charged 334, and 333 by pools and tie"),
+            "{why}"
+        );
+    }
+
+    #[test]
+    fn pools_are_tallied() {
+        let case = example_of_pools();
+        let tally = count(&case, &printed(&case)).unwrap();
+        assert_eq!(tally.pools, [0, 1, 1, 1, 0]);
+        assert_eq!(tally.pools_accepted, tally.pools);
+        assert_eq!((tally.tied, tally.joined), (1, [0, 1, 0]));
+        let calls = "default 1 25600000001 / 1\ndefault 1 1 / 25600000001\n\
+            default 1 1 2:1 3:1 / 1 2:1 3:1 4:1\ndefault 1 1 2:1 3:1 4:1 / 1 2:1 3:1\n\
+            default 1 1 / 1 / 1 / 1 / 1\ndefault 9 1 / 1 / 1 / 1 / 1 / 1\nregister\n";
+        let case = DrillCase {
+            calls: calls.into(),
+            ..example()
+        };
+        let tally = count(&case, &printed(&case)).unwrap();
+        assert_eq!(tally.pools, [0, 4, 0, 0, 2]);
+        assert_eq!(tally.pools_accepted, [0; 5]);
+        assert_eq!((tally.later_loss, tally.later_rank), (1, 1));
     }
 
     #[test]

@@ -13,14 +13,11 @@ abbrev μ-loop : tie.MeasureT-loop
 loop-holds : tie.Need-loop-holds Inv-loop μ-loop
 loop-holds c = search needs
 
-mul-ranks : tie.Need-mul-ranks Inv-loop μ-loop
-mul-ranks c = search needs
+mul-rank : tie.Need-mul-rank Inv-loop μ-loop
+mul-rank c = search needs
 
-cast-ranks : tie.Need-cast-ranks Inv-loop μ-loop
-cast-ranks c = search needs
-
-add-ranks : tie.Need-add-ranks Inv-loop μ-loop
-add-ranks c = search needs
+rank-requires : tie.Need-rank-requires Inv-loop μ-loop
+rank-requires c κs = search needs
 
 array-write-ranks : tie.Need-array-write-ranks Inv-loop μ-loop
 array-write-ranks c = search needs
@@ -44,9 +41,8 @@ all-ranks-spec =
     Inv-loop
     μ-loop
     loop-holds
-    mul-ranks
-    cast-ranks
-    add-ranks
+    mul-rank
+    rank-requires
     array-write-ranks
     add-i
     loop-less

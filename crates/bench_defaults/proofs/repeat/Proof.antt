@@ -7,10 +7,10 @@ use Rattle.bench_defaults.proofs.repeat.Statement.{statement}
 use Rattle.bench_defaults.proofs.repeat.Tie as tie
 
 abbrev Inv-loop : tie.InvT-loop
-Inv-loop register loss ranks turns slip₀ sum₀ turn₀ slip sum turn = (turn ≤ turns) × ((turn ≡ 0) → (sum ≡ 0))
+Inv-loop register pools ranks turns slip₀ sum₀ turn₀ slip sum turn = (turn ≤ turns) × ((turn ≡ 0) → (sum ≡ 0))
 
 abbrev μ-loop : tie.MeasureT-loop
-μ-loop register loss ranks turns slip₀ sum₀ turn₀ slip sum turn = turns - turn
+μ-loop register pools ranks turns slip₀ sum₀ turn₀ slip sum turn = turns - turn
 
 loop-holds : tie.Need-loop-holds Inv-loop μ-loop
 loop-holds c = (search needs, λ e. refl)

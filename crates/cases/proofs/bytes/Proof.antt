@@ -1,4 +1,4 @@
--- `cases::bytes` reads and writes within its lists, ends, and takes at most 192 digits.
+-- `cases::bytes` reads and writes within its lists, ends, and takes at most 640 digits.
 use Prim.Native.Nat.{_≤_, _-_}
 use mathlib.Core.Path.{_≡_, _∙_, ap}
 use mathlib.Core.Logic.{⊎-elim}
@@ -8,7 +8,7 @@ use Rattle.cases.proofs.bytes.Statement.{statement}
 use Rattle.cases.proofs.bytes.Tie as tie
 
 abbrev Inv-loop : tie.InvT-loop
-Inv-loop digits blank list₀ taken₀ i₀ list taken i = (i ≤ length digits) × (taken ≤ 192) × (length list ≡ 96)
+Inv-loop digits blank list₀ taken₀ i₀ list taken i = (i ≤ length digits) × (taken ≤ 640) × (length list ≡ 320)
 
 abbrev μ-loop : tie.MeasureT-loop
 μ-loop digits blank list₀ taken₀ i₀ list taken i = length digits - i
@@ -37,8 +37,11 @@ add-list c = search needs
 array-write-list : tie.Need-array-write-list Inv-loop μ-loop
 array-write-list c = search needs
 
-add-taken : tie.Need-add-taken Inv-loop μ-loop
-add-taken c = search needs
+shared-slice-read-next : tie.Need-shared-slice-read-next Inv-loop μ-loop
+shared-slice-read-next c = search needs
+
+next-requires : tie.Need-next-requires Inv-loop μ-loop
+next-requires c κs = search needs
 
 add-i : tie.Need-add-i Inv-loop μ-loop
 add-i c = search needs
@@ -47,7 +50,7 @@ loop-less : tie.Need-loop-less Inv-loop μ-loop
 loop-less c = search needs
 
 loop-again : tie.Need-loop-again Inv-loop μ-loop
-loop-again c = ⊎-elim (λ w. (search needs, search needs, ap length (w .1) ∙ simp length-set (c .before .before .before .before .before .loop .inv .2))) (λ w. search needs) (c .if2 .came)
+loop-again c = ⊎-elim (λ w. (search needs, search needs, ap length (w .1) ∙ simp length-set (c .before .before .before .before .before .before .before .loop .inv .2))) (λ w. search needs) (c .before .before .if2 .came)
 
 returns-2 : tie.Need-returns-2 Inv-loop μ-loop
 returns-2 c = search needs
@@ -66,7 +69,8 @@ bytes-spec =
     mul-list
     add-list
     array-write-list
-    add-taken
+    shared-slice-read-next
+    next-requires
     add-i
     loop-less
     loop-again

@@ -6,7 +6,7 @@ use Rattle.cases.proofs.numbers.Statement.{statement}
 use Rattle.cases.proofs.numbers.Tie as tie
 
 abbrev Inv-loop : tie.InvT-loop
-Inv-loop words out₀ at₀ i₀ out at i = (i ≤ length words) × (at ≤ 5)
+Inv-loop words out₀ at₀ i₀ out at i = (i ≤ length words) × (at ≤ 9)
 
 abbrev μ-loop : tie.MeasureT-loop
 μ-loop words out₀ at₀ i₀ out at i = length words - i

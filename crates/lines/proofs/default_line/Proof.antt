@@ -1,62 +1,51 @@
 -- `default_line` meets its contract.
-use mathlib.Core.Path.{sym, ap, _∙_}
-use native.Mathlib.Omega.{arith}
-use borrow.Author.Tests.{not-true, not-false}
-use lib.ListN.{length}
-use Rattle.lines.proofs.Reading.{default-bad, default-made}
+use mathlib.Core.Path.{sym, _∙_}
+use lib.ListN.{drop}
+use Rattle.words.specs.Words.{wordsOf}
+use Rattle.lines.proofs.Pooling.{default-none, default-some}
 use borrow.Author.Needs.{needs}
 use Rattle.lines.proofs.default_line.Statement.{statement}
 use Rattle.lines.proofs.default_line.Tie as tie
 
-two-numbers-requires : tie.Need-two-numbers-requires
-two-numbers-requires c κs = search needs
+number-at-requires : tie.Need-number-at-requires
+number-at-requires c κs = search needs
 
-slice-aggregate-read-ranks : tie.Need-slice-aggregate-read-ranks
-slice-aggregate-read-ranks c = search needs
+enum-known-number : tie.Need-enum-known-number
+enum-known-number c = search needs
 
-read-ranks-requires : tie.Need-read-ranks-requires
-read-ranks-requires c κs = search needs
+enum-told : tie.Need-enum-told
+enum-told c = search needs
 
-clear-requires : tie.Need-clear-requires
-clear-requires c κs = omega (arith, ap length (c .before .before .before .before .before .before .before .before .before .before .before .pre))
+returns : tie.Need-returns
+returns c =
+    let n = c .before .before in
+    let s = n .before .before .before in
+    let z = default-none (wordsOf (drop (s .args .from) (s .args .line .now))) (sym (n .number-at .ensures .0) ∙ c .enum-told .given .1) in
+    (z .0, s .pre ∙ z .1)
+
+pools-line-requires : tie.Need-pools-line-requires
+pools-line-requires c κs = search needs
 
 same-length : tie.Need-same-length
 same-length c = search needs
 
-returns : tie.Need-returns
-returns c =
-    let k = c .before .before in
-    let i = k .before .before in
-    let r = i .before .before .before .before in
-    let t = r .before .before .before .two-numbers in
-    let z = default-bad _ _ (t .ensures .1 .1) (sym (r .read-ranks .ensures .0) ∙ not-true _ (i .if1 .taken)) in
-    (z .0, k .clear .ensures ∙ z .1)
-
-call-of-requires : tie.Need-call-of-requires
-call-of-requires c κs = search needs
-
-same-length-2 : tie.Need-same-length-2
-same-length-2 c = search needs
-
 returns-2 : tie.Need-returns-2
 returns-2 c =
-    let i = c .before in
-    let r = i .before .before .before .before in
-    let t = r .before .before .before .two-numbers in
-    let g = not-false _ (i .if1 .left) in
-    let z = default-made _ _ (t .ensures .1 .1) (sym (r .read-ranks .ensures .0) ∙ g) _ _ _ (t .ensures .0) (t .ensures .1 .0) (c .call-of .ensures) _ (r .before .before .before .before .before .before .pre) in
-    (z .0, r .read-ranks .ensures .1 g ∙ z .1)
+    let p = c .before .before in
+    let v = p .before .before .before in
+    let t = v .before .before in
+    let n = t .number-at .ensures in
+    let a = t .before .before .before .args in
+    default-some _ (wordsOf (drop (a .from) (a .line .now))) _ (sym (n .0) ∙ v .number .given .1) (n .1 .0) _ _ (p .pools-line .ensures .0) (p .pools-line .ensures .1)
 
 pub default-line-spec : {M : Type 1} → statement M
 default-line-spec =
     tie.close
     (tie.spec
-    two-numbers-requires
-    slice-aggregate-read-ranks
-    read-ranks-requires
-    clear-requires
-    same-length
+    number-at-requires
+    enum-known-number
+    enum-told
     returns
-    call-of-requires
-    same-length-2
+    pools-line-requires
+    same-length
     returns-2)

@@ -29,7 +29,7 @@ use sound.WpLaws.{FmC, fmOf, WpFn-mono}
 use denote.RattleType.{owns}
 use denote.Laws.{Is, shows}
 use denote.Memory.{mem, partAt, partOf, cellAt}
-use denote.Plain.{Nothing, uint-makes, uint-vals, uint-tells}
+use denote.Plain.{Nothing, uint-makes}
 use denote.Builtin.{u8, u64}
 use denote.Ref.{RefT, MutRef}
 use denote.Slice.{sliceVal, ShrSlice, MutSlice, Room, finally, slice-vals, shr-slice-tells, mut-slice-tells}
@@ -49,8 +49,11 @@ use denote.Triple.Clauses.{Lasts, ensured, lasts}
 use denote.Exit.{yes}
 use Rattle.waterfall.specs.Register.{GivenBack}
 use Rattle.waterfall.specs.Reply.{Says, nothing as nothing-allocated}
-use Rattle.waterfall.specs.Default.{allocationOf, defaultRefusal, defaultOf, defaultSlip}
+use Rattle.waterfall.specs.Pools.{pooledAllocation, pooledRefusal, pooledOf, pooledSlip}
 use Rattle.waterfall.specs.Calls.{closeOf, closeRefusal, paymentOf, paymentRefusal, replenishmentOf, replenishmentRefusal}
+use Rattle.admission.specs.declared.Pools.{Pools}
+use Rattle.admission.proofs.Pools as P
+use Rattle.admission.proofs.Pools.Laws as P′
 use Rattle.waterfall.specs.declared.Register.{Register}
 use Rattle.waterfall.specs.declared.Reply.{Reply}
 use Rattle.waterfall.proofs.Register as T
@@ -93,7 +96,7 @@ abbrev val : Register → Val
 val h = only (vals h)
 
 abbrev stayed : Stays (calls.ended .signature .params) (calls.ended .kept)
-stayed = (stay-dropped (plain (λ _. T.the-row)) yes, (stay-dropped (plain (λ _. u64)) yes, (stay-dropped (shrSliceOf (0 ∷ []) tt (plain (λ _. u8))) yes, (gave-slice (1 ∷ []) tt (plain (λ _. u64)), tt))))
+stayed = (stay-dropped (plain (λ _. T.the-row)) yes, (stay-dropped (plain (λ _. P.the-row)) yes, (stay-dropped (shrSliceOf (0 ∷ []) tt (plain (λ _. u8))) yes, (gave-slice (1 ∷ []) tt (plain (λ _. u64)), tt))))
 
 -- ---- a register in a local's place, lent and taken back
 -- what the holder of the register's reference owns
@@ -246,15 +249,18 @@ module _ {M : Type 1} (𝓤 : URA M) (H : Heap 𝓤) (A : Atoms 𝓤) (W : Given
   typed-unit : (w : Val) → w ≡ vunit → Holds (hasTy tyUnit w) × WT w
   typed-unit w e = subst (λ (y : Val). Holds (hasTy tyUnit y) × WT y) (sym e) (tt, tt)
 
-  -- ---- the walk, at one loss, ranks and slip
-  module _ (κ₁ κ₂ : Lft) (q₁ q₂ : Share) (first : Register) (loss : ℕ) (fits : loss < 2 ^ 64) (ranks : RefT (List ℕ)) (b₂ o₂ : ℕ) (γ₂ : GName) (slip : List ℕ) (room₁ : Room u8 (length (ranks .now))) (room₂ : Room u64 (length slip)) where
+  -- ---- the walk, at given pools, ranks and slip
+  module _ (κ₁ κ₂ : Lft) (q₁ q₂ : Share) (first : Register) (pools : Pools) (are-pools : Is P.the-row pools (LL.vals P.the-type P′.the-laws pools)) (ranks : RefT (List ℕ)) (b₂ o₂ : ℕ) (γ₂ : GName) (slip : List ℕ) (room₁ : Room u8 (length (ranks .now))) (room₂ : Room u64 (length slip)) where
     abbrev y : RefT (List ℕ)
     y = record { ptr = (b₂, o₂); name = γ₂; now = slip }
 
-    abbrev x : Register × (ℕ × (RefT (List ℕ) × (RefT (List ℕ) × Unit {0})))
-    x = (first, (loss, (ranks, (y, tt))))
+    abbrev x : Register × (Pools × (RefT (List ℕ) × (RefT (List ℕ) × Unit {0})))
+    x = (first, (pools, (ranks, (y, tt))))
 
-    -- the machine values of the ranks and of the slip
+    -- the machine values of the pools, of the ranks and of the slip
+    abbrev v₀ : Val
+    v₀ = LL.val P.the-type P′.the-laws pools
+
     abbrev v₁ : Val
     v₁ = sliceVal (ranks .ptr) (length (ranks .now))
 
@@ -262,7 +268,7 @@ module _ {M : Type 1} (𝓤 : URA M) (H : Heap 𝓤) (A : Atoms 𝓤) (W : Given
     v₂ = sliceVal (b₂, o₂) (length slip)
 
     abbrev at : List Val × (List Val × (List Val × (List Val × Unit {0})))
-    at = (vals first, (vint w64 loss ∷ [], (v₁ ∷ [], (v₂ ∷ [], tt))))
+    at = (vals first, (v₀ ∷ [], (v₁ ∷ [], (v₂ ∷ [], tt))))
 
     -- the tokens of the ranks and of the slip, and what these own
     abbrev toks : Item 𝓤
@@ -281,20 +287,20 @@ module _ {M : Type 1} (𝓤 : URA M) (H : Heap 𝓤) (A : Atoms 𝓤) (W : Given
         move ! (1 ∷ []) $ nothing ! $ move ! (1 ∷ 0 ∷ []) $ fjoin ! $ nothing ! $ fjoin ! $ nothing ! $ fjoin ! $ nothing ! $ fjoin ! $
         feqI ! (List Val) (vunit ∷ []) (vunit ∷ []) refl $ move ! (1 ∷ 0 ∷ []) $ join ! $ move ! (1 ∷ 0 ∷ []) $ join ! $ nothing ! $ move ! (1 ∷ 0 ∷ []) $ done !
 
-    abbrev args : ℕ → GName → RefT Register × (ℕ × (ℕ × (RefT (List ℕ) × (RefT (List ℕ) × Unit {0}))))
-    args l δ = (record { ptr = (l, 0); name = δ; now = first }, (1, (loss, (ranks, (y, tt)))))
+    abbrev args : ℕ → GName → RefT Register × (ℕ × (Pools × (RefT (List ℕ) × (RefT (List ℕ) × Unit {0}))))
+    args l δ = (record { ptr = (l, 0); name = δ; now = first }, (1, (pools, (ranks, (y, tt)))))
 
     abbrev to-declare : ℕ → ℕ → GName → Declare .Ghost
-    to-declare α l δ = (((α ∷ [], (κ₁, (κ₂, tt))), (fullShare, (q₁, (q₂, tt))), tt, args l δ, (vptr l 0 ∷ [], (vint w64 1 ∷ [], (vint w64 loss ∷ [], (v₁ ∷ [], (v₂ ∷ [], tt)))))), tt)
+    to-declare α l δ = (((α ∷ [], (κ₁, (κ₂, tt))), (fullShare, (q₁, (q₂, tt))), tt, args l δ, (vptr l 0 ∷ [], (vint w64 1 ∷ [], (v₀ ∷ [], (v₁ ∷ [], (v₂ ∷ [], tt)))))), tt)
 
     goes-declare : (α l : ℕ) (δ : GName) → GivenBack first → ent 𝓤 (⋆ 𝓤 H A ((‵ (flft (α ∷ []) fullShare) ⊛ toks) ∷ ‵ (own-at α l δ first) ∷ ‵ lent-on ∷ [])) (Declare .pre (to-declare α l δ))
     goes-declare α l δ back =
         qed W ((‵ (flft (α ∷ []) fullShare) ⊛ toks) ∷ ‵ (own-at α l δ first) ∷ ‵ lent-on ∷ []) ∵ says ! back $ frame ! $
-        owned ! u64 (Is u64) (uint-makes 𝓤 H A W w64) loss (vint w64 loss ∷ []) (refl, fits) $ owned ! u64 (Is u64) (uint-makes 𝓤 H A W w64) 1 (vint w64 1 ∷ []) (refl, omega arith) $ move ! (2 ∷ 0 ∷ 1 ∷ 3 ∷ []) $ done !
+        owned ! P.the-row (Is P.the-row) (LL.makes P.the-type P′.the-plain 𝓤 H A) pools (v₀ ∷ []) are-pools $ owned ! u64 (Is u64) (uint-makes 𝓤 H A W w64) 1 (vint w64 1 ∷ []) (refl, omega arith) $ move ! (2 ∷ 0 ∷ 1 ∷ 3 ∷ []) $ done !
 
     -- what the default ensures at its last values, and what the caller has of it: as of any call, and the tokens and the last slip
     abbrev Said : (α l : ℕ) (δ : GName) → Reply → Lasts declare.ended (α ∷ [], (κ₁, (κ₂, tt))) (args l δ) → Type 0
-    Said α l δ r ws = (r ≡ defaultOf first 1 loss (ranks .now) slip .reply) × (ws .0 ≡ defaultOf first 1 loss (ranks .now) slip .register) × (ws .1 .1 .1 .1 .0 ≡ defaultSlip first 1 loss (ranks .now) slip) × GivenBack (ws .0) × Says r (defaultRefusal first 1 loss (ranks .now) slip) (allocationOf first 1 loss (ranks .now))
+    Said α l δ r ws = (r ≡ pooledOf first 1 pools (ranks .now) slip .reply) × (ws .0 ≡ pooledOf first 1 pools (ranks .now) slip .register) × (ws .1 .1 .1 .1 .0 ≡ pooledSlip first 1 pools (ranks .now) slip) × GivenBack (ws .0) × Says r (pooledRefusal first 1 pools (ranks .now) slip) (pooledAllocation first 1 pools (ranks .now))
 
     abbrev DeclaredBy : ℕ → GName → Val → Reply → Register → List ℕ → SProp 𝓤
     DeclaredBy α δ v r h zs = guard 𝓤 (GivenBack h × (length zs ≡ length slip)) (⋆ 𝓤 H A (‵ (R.the-row .own r (v ∷ [])) ∷ ‵ (flft (α ∷ []) fullShare) ∷ ‵ (last-at δ h) ∷ toks ∷ ‵ (finally u64 γ₂ zs) ∷ []))
@@ -309,12 +315,12 @@ module _ {M : Type 1} (𝓤 : URA M) (H : Heap 𝓤) (A : Atoms 𝓤) (W : Given
         move ! (2 ∷ []) $ split ! $ split ! $ at-once ! $ keep ! (2 ∷ 0 ∷ 4 ∷ 1 ∷ 3 ∷ []) $ offers ! (λ (r′ : Reply). ex 𝓤 (λ (h : Register). ex 𝓤 (DeclaredBy α δ v r′ h))) r $ offers ! (λ (h : Register). ex 𝓤 (DeclaredBy α δ v r h)) (ws .0) $ offers ! (DeclaredBy α δ v r (ws .0)) (ws .1 .1 .1 .1 .0) $ check ! (said .3, e) $ done !))))
 
     module _ (C : Calls 𝓤 H) (Λ : Loops 𝓤 H) (mono : FmC 𝓤 H (W .laws) C) (known-declare : Triple 𝓤 (C #declare) Declare) (known-pay : Triple 𝓤 (C #pay) Pay) (known-replenish : Triple 𝓤 (C #replenish) Replenish) (known-close : Triple 𝓤 (C #close) Close) (known-tell : Triple 𝓤 (C #tell) Tell) (known-show : Triple 𝓤 (C #show) Show) where
-      walk : GivenBack first → Is T.the-row first (vals first) → ent 𝓤 (onEntry 𝓤 H A calls.signature (κ₁, (κ₂, tt)) (q₁, (q₂, tt)) x at) (WpFn 𝓤 H C Λ code.function (val first ∷ vint w64 loss ∷ v₁ ∷ v₂ ∷ []) Post)
+      walk : GivenBack first → Is T.the-row first (vals first) → ent 𝓤 (onEntry 𝓤 H A calls.signature (κ₁, (κ₂, tt)) (q₁, (q₂, tt)) x at) (WpFn 𝓤 H C Λ code.function (val first ∷ v₀ ∷ v₁ ∷ v₂ ∷ []) Post)
       walk back is =
-          qed W (toks ∷ ‵ (owns (T.the-row ∷ u64 ∷ ShrSlice (named 0) κ₁ u8 ∷ MutSlice (named 1) κ₂ u64 ∷ []) x at) ∷ []) ∵ move ! (1 ∷ []) $ fsplit ! $ drop ! $ fsplit ! $ drop ! $ move ! (1 ∷ 0 ∷ []) $
-          enter ! C Λ code.function (val first ∷ vint w64 loss ∷ v₁ ∷ v₂ ∷ []) _ $
+          qed W (toks ∷ ‵ (owns (T.the-row ∷ P.the-row ∷ ShrSlice (named 0) κ₁ u8 ∷ MutSlice (named 1) κ₂ u64 ∷ []) x at) ∷ []) ∵ move ! (1 ∷ []) $ fsplit ! $ drop ! $ fsplit ! $ drop ! $ move ! (1 ∷ 0 ∷ []) $
+          enter ! C Λ code.function (val first ∷ v₀ ∷ v₁ ∷ v₂ ∷ []) _ $
           alloc1 ! (λ l₀. alloc1 ! (λ l₁. alloc1 ! (λ l₂. alloc1 ! (λ l₃. alloc1 ! (λ l₄. alloc1 ! (λ l₅. alloc1 ! (λ l₆. alloc1 ! (λ l₇. alloc1 ! (λ l₈. alloc1 ! (λ l₉. alloc1 ! (λ l₁₀. alloc1 ! (λ l₁₁. alloc1 ! (λ l₁₂. alloc1 ! (λ l₁₃. alloc1 ! (λ l₁₄. alloc1 ! (λ l₁₅. alloc0 ! $ params1 ! $
-          pass1 ! (init ! 28 refl (typed first is)) $ pass1 ! (init ! 26 refl (tt, record { fits = fits })) $
+          pass1 ! (init ! 28 refl (typed first is)) $ pass1 ! (init ! 26 refl (LL.lawful P.the-type P′.the-laws 𝓤 H A W .typed pools (v₀ ∷ []) are-pools .0)) $
           pass1 ! (init ! 24 refl (tt, (tt, (record { fits = room₁ .0 }, tt)))) $ pass1 ! (init ! 22 refl (tt, (tt, (record { fits = room₂ .0 }, tt)))) $ pass0 ! $
           assigns ! (of-opd ! (load ! (from ! (stop !)) (look ! 28 refl))) (from ! (stop !)) (init ! 20 refl (typed first is)) $
           -- [0 the register, _5; 2 _1; 4 room for _0; 6 for _6; 8 for _7; 10 for _8; .. 24 for _15; 26 _2; 28 _3; 30 _4, each with what frees it; 32 the tokens; 33 what the ranks and the slip own]
@@ -381,16 +387,16 @@ module _ {M : Type 1} (𝓤 : URA M) (H : Heap 𝓤) (A : Atoms 𝓤) (W : Given
   walks : (C : Calls 𝓤 H) (Λ : Loops 𝓤 H) → FmC 𝓤 H (W .laws) C → Triple 𝓤 (C #declare) Declare → Triple 𝓤 (C #pay) Pay → Triple 𝓤 (C #replenish) Replenish → Triple 𝓤 (C #close) Close → Triple 𝓤 (C #tell) Tell → Triple 𝓤 (C #show) Show
       → Walks 𝓤 H A calls.ended stayed (WpFn 𝓤 H C Λ code.function) (calls.clauses 𝓤 H A at-mem run)
   walks C Λ mono known-declare known-pay known-replenish known-close known-tell known-show =
-      walked 𝓤 H A calls.ended stayed (calls.clauses 𝓤 H A at-mem run) (WpFn 𝓤 H C Λ code.function) (λ κs. (vals, (uint-vals w64, (slice-vals, (slice-vals, tt)))))
-      (λ κs. (LL.tells T.the-type T′.the-laws, (uint-tells w64, (shr-slice-tells (named 0) (κs .0) u8, (mut-slice-tells (named 1) (κs .1 .0) u64, tt)))))
+      walked 𝓤 H A calls.ended stayed (calls.clauses 𝓤 H A at-mem run) (WpFn 𝓤 H C Λ code.function) (λ κs. (vals, (LL.vals P.the-type P′.the-laws, (slice-vals, (slice-vals, tt)))))
+      (λ κs. (LL.tells T.the-type T′.the-laws, (LL.tells P.the-type P′.the-laws, (shr-slice-tells (named 0) (κs .0) u8, (mut-slice-tells (named 1) (κs .1 .0) u64, tt)))))
       (λ κs qs bounds a g are. needs 𝓤 (GivenBack (a .0)) _ (λ back.
       let slip : RefT (List ℕ) = a .1 .1 .1 .0 in
-      walk (κs .0) (κs .1 .0) (qs .0) (qs .1 .0) (a .0) (a .1 .0) (are .1 .0 .1) (a .1 .1 .0) (slip .ptr .0) (slip .ptr .1) (slip .name) (slip .now) (are .1 .1 .0 .0 .1) (are .1 .1 .1 .0 .0 .1) C Λ mono known-declare known-pay known-replenish known-close known-tell known-show back (are .0)))
+      walk (κs .0) (κs .1 .0) (qs .0) (qs .1 .0) (a .0) (a .1 .0) (are .1 .0) (a .1 .1 .0) (slip .ptr .0) (slip .ptr .1) (slip .name) (slip .now) (are .1 .1 .0 .0 .1) (are .1 .1 .1 .0 .0 .1) C Λ mono known-declare known-pay known-replenish known-close known-tell known-show back (are .0)))
 
   goes : AllGo 𝓤 H A W 2 (calls.signature .params) (calls.ended .kept) stayed
   goes = (
     goes-dropped 𝓤 H A W 2 (plain (λ _. T.the-row)) yes (λ κs x f. refl),
-    (goes-dropped 𝓤 H A W 2 (plain (λ _. u64)) yes (λ κs x f. refl), (goes-dropped 𝓤 H A W 2 (shrSliceOf (0 ∷ []) tt (plain (λ _. u8))) yes (λ κs x f. refl), (goes-gave-slice 𝓤 H A W 2 1 tt (plain (λ _. u64)), tt))),
+    (goes-dropped 𝓤 H A W 2 (plain (λ _. P.the-row)) yes (λ κs x f. refl), (goes-dropped 𝓤 H A W 2 (shrSliceOf (0 ∷ []) tt (plain (λ _. u8))) yes (λ κs x f. refl), (goes-gave-slice 𝓤 H A W 2 1 tt (plain (λ _. u64)), tt))),
   )
 
   meets : (𝓣 : Tables 𝓤 H) → Triple 𝓤 (𝓣 .C #declare) Declare → Triple 𝓤 (𝓣 .C #pay) Pay → Triple 𝓤 (𝓣 .C #replenish) Replenish → Triple 𝓤 (𝓣 .C #close) Close → Triple 𝓤 (𝓣 .C #tell) Tell → Triple 𝓤 (𝓣 .C #show) Show

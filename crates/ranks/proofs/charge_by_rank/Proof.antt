@@ -1,12 +1,12 @@
 -- `ranks::charge_by_rank` meets its contract: the marginal rank's shares, with the ranks above charged whole.
 use Prim.Native.Nat.{ℕ}
-use mathlib.Core.Path.{refl, ap, sym, _∙_}
+use mathlib.Core.Path.{_≡_, ap, sym, _∙_}
 use mathlib.Core.List.{List}
 use native.Mathlib.Omega.{arith}
 use borrow.Author.Needs.{needs}
 use lib.ListN.{length, getD}
 use Rattle.lists.specs.Sums.{total, plus}
-use Rattle.lists.proofs.Sums.{zeros, getD-zeros}
+use Rattle.lists.proofs.Sums.{zeros, all-zeros}
 use Rattle.split.proofs.Laws.{split-le, split-within, exceeds-none}
 use Rattle.ranks.specs.Ranks.{atRank, chargesOf}
 use Rattle.ranks.specs.Parts.{aboveRank}
@@ -17,16 +17,11 @@ use Rattle.ranks.proofs.charge_by_rank.Tie as tie
 returns : tie.Need-returns
 returns c =
     let s = c .before .before in
-    let a = s .args in (
-      (
-        zeros
-            64
-            (chargesOf (a .sum) (a .weights .now) (a .ranks .now))
-            (omega (arith, length-charges (a .sum) (a .weights .now) (a .ranks .now) (omega arith)))
-            (omega (arith, charges-within (a .sum) (a .weights .now) (a .ranks .now))),
-        refl,
-      ),
-      sym (exceeds-none _ (a .weights .now) (λ k. omega (arith, getD-zeros 64 k))),
+    let a = s .args in
+    let cs : List ℕ = chargesOf (a .sum) (a .weights .now) (a .ranks .now) in
+    let none : total cs ≡ 0 = omega (arith, charges-within (a .sum) (a .weights .now) (a .ranks .now), c .if1 .taken) in (
+      all-zeros (a .charges .now) (s .pre .3) ∙ zeros (length (a .charges .now)) cs (length-charges (a .sum) (a .weights .now) (a .ranks .now) (omega (arith, s .pre .1 .as-many, s .pre .1 .long)) ∙ omega (arith, s .pre .1 .long, s .pre .2)) none,
+      (sym none, sym (exceeds-none cs (a .weights .now) (charge-within (a .sum) (a .weights .now) (a .ranks .now)))),
     )
 
 marginal-requires : tie.Need-marginal-requires
@@ -41,8 +36,8 @@ share-marginal-requires c κs =
         part-fits = omega (arith, m .part-fits, s .pre .0);
         part-within = m .part-within;
         whole-is = m .whole-is;
-        long = refl;
-        none = refl;
+        long = s .pre .2;
+        none = s .pre .3;
       },
     )
 
@@ -78,10 +73,13 @@ returns-2 c =
     c .charge-above .ensures
     ∙ ap (plus (aboveRank (m .result .rank) (a .weights .now) (a .ranks .now))) (r .ensures .0)
     ∙ m .ensures .charges in (
-      (e, m .ensures .charged-is ∙ ap total (sym e)),
-      r .ensures .1
-          ∙ exceeds-none _ own (split-within (m .result .part) own (m .ensures .part-within))
-          ∙ sym (exceeds-none _ (a .weights .now) (λ k. rw e (charge-within (a .sum) (a .weights .now) (a .ranks .now) k))),
+      e,
+      (
+        m .ensures .charged-is,
+        r .ensures .1
+            ∙ exceeds-none _ own (split-within (m .result .part) own (m .ensures .part-within))
+            ∙ sym (exceeds-none _ (a .weights .now) (charge-within (a .sum) (a .weights .now) (a .ranks .now))),
+      ),
     )
 
 pub charge-by-rank-spec : {M : Type 1} → statement M

@@ -86,8 +86,8 @@ put-page-requires c κs =
 enum-known-says : tie.Need-enum-known-says Inv-loop μ-loop
 enum-known-says c = search needs
 
-apply-requires : tie.Need-apply-requires Inv-loop μ-loop
-apply-requires c κs = search needs
+answer-requires : tie.Need-answer-requires Inv-loop μ-loop
+answer-requires c κs = search needs
 
 latest-of-requires : tie.Need-latest-of-requires Inv-loop μ-loop
 latest-of-requires c κs = search needs
@@ -99,7 +99,7 @@ put-reply-requires c κs =
     let i = l .loop .inv in
     let p = l .before .before .before .before .before .before .pre in
     let k = m .make-room .ensures in
-    let a = c .before .before .before .before .before .before .apply .kept in
+    let a = c .before .before .before .before .before .before .answer .kept in
     search needs
 
 sub-turns : tie.Need-sub-turns Inv-loop μ-loop
@@ -118,8 +118,8 @@ loop-again c =
     let l = t .before .before .before .before .before .before .before .before .before .loop in
     let i = l .inv in
     let w = c .match .came in (
-      by-case (λ a. rw (a .4) (i .0)) (λ a. rw (a .8) (i .0)) (λ a. rw (a .8) (i .0)) (λ a. rw (a .8) (i .0)) (λ a. rw (a .17) (a .5 .ensures .1 .1 .0)) w,
-      by-case (λ a. rw (a .5) (i .1)) (λ a. rw (a .9) (i .1)) (λ a. rw (a .9) (i .1)) (λ a. rw (a .9) (i .1)) (λ a. rw (a .18) (latest-printable _ (a .1 .given .0 .0) (t .take .last .1 .1 .0) (l .slip) _ (a .9 .ensures) (a .5 .ensures .0) (i .0) (i .1))) w,
+      by-case (λ a. rw (a .4) (i .0)) (λ a. rw (a .8) (i .0)) (λ a. rw (a .8) (i .0)) (λ a. rw (a .8) (i .0)) (λ a. rw (a .17) (a .5 .ensures .1)) w,
+      by-case (λ a. rw (a .5) (i .1)) (λ a. rw (a .9) (i .1)) (λ a. rw (a .9) (i .1)) (λ a. rw (a .9) (i .1)) (λ a. rw (a .18) (latest-printable _ (a .1 .given .0 .0) _ (l .slip) _ (a .9 .ensures) (a .5 .ensures .0) (i .0) (i .1))) w,
       search needs,
       search needs,
       search needs,
@@ -168,7 +168,7 @@ drill-spec =
     enum-told-4
     put-page-requires
     enum-known-says
-    apply-requires
+    answer-requires
     latest-of-requires
     put-reply-requires
     sub-turns

@@ -1,6 +1,5 @@
 -- `split::share` meets its contract.
 use mathlib.Core.Path.{sym}
-use native.Mathlib.Nat.{mul-le-mul}
 use native.Mathlib.Omega.{arith}
 use borrow.Author.Needs.{needs}
 use Rattle.split.specs.Split.{shareOf}
@@ -12,7 +11,7 @@ returns : tie.Need-returns
 returns c = sym (share-none _ _ _ (c .if1 .taken))
 
 mul-result : tie.Need-mul-result
-mul-result c = omega (arith, mul-le-mul (c .before .pre .0) (c .before .pre .1))
+mul-result c = omega (arith, c .before .pre .0)
 
 div-result : tie.Need-div-result
 div-result c = search needs

@@ -4,6 +4,7 @@ use Prim.Native.Nat.{ℕ, _+_, _-_, _≤_}
 use mathlib.Core.Path.{_≡_, refl}
 use mathlib.Core.Bool.{_||_}
 use mathlib.Core.List.{List, _++_}
+use native.Mathlib.Nat.{mul-le-mul-left}
 use native.Mathlib.Omega.{arith}
 use lib.ListN.{length, getD, take, drop, length-set}
 use borrow.Author.Needs.{needs}
@@ -50,7 +51,13 @@ share-requires : tie.Need-share-requires Inv-loop μ-loop
 unfolding weights
 share-requires c κs =
     let p = c .before .before .before .before .before .pre in
-    omega (arith, p .weights-fit (c .before .before .loop .i), p .sum-fits, turn (c .before))
+    let l = c .before .before .loop in
+    omega (
+      arith,
+      mul-le-mul-left (getD (weights (c .before)) (l .i) 0) (l .inv .2),
+      p .products-fit (l .i),
+      turn (c .before),
+    )
 
 mul-shares : tie.Need-mul-shares Inv-loop μ-loop
 mul-shares c = search needs

@@ -11,10 +11,10 @@ use Rattle.typed_ranks.proofs.clear.Statement.{statement}
 use Rattle.typed_ranks.proofs.clear.Tie as tie
 
 abbrev Inv-loop : tie.InvT-loop
-Inv-loop ranks₀ i₀ ranks i = (i ≤ 64) × (length ranks ≡ 64) × (ranks ≡ replicate i 255 ++ drop i ranks₀)
+Inv-loop ranks₀ i₀ ranks i = (i ≤ 256) × (length ranks ≡ 256) × (ranks ≡ replicate i 255 ++ drop i ranks₀)
 
 abbrev μ-loop : tie.MeasureT-loop
-μ-loop ranks₀ i₀ ranks i = 64 - i
+μ-loop ranks₀ i₀ ranks i = 256 - i
 
 loop-holds : tie.Need-loop-holds Inv-loop μ-loop
 loop-holds c = (omega arith, search needs, refl)

@@ -35,8 +35,12 @@ replenishment 2 30001
 replenishment 2 30000
 default 2 1000000 4:
 default 2 1000000 4:25
+default 2 1 4:1 / 25600000001 4:1
+default 2 25600000000 4:1/ 1 4:1
+default 2 25600000000 4:1 / 1 4:1
+default 2 1 / 1 4:1 / 1 / 1 / 1
   page # of member 3
-default 2 1000000 4:7
+default 2 900000 4:7 / 0 4:24 1: / 100000 4:1   # / 5
 register
 default 4 1
 close
@@ -99,6 +103,16 @@ fn shares_sheet() -> Vec<u8> {
     records.concat()
 }
 
+/// A default of as many pools as a line of this length holds.
+fn many_pools(length: usize) -> Vec<u8> {
+    let mut line = b"default 2 5".to_vec();
+    while line.len() + 4 <= length {
+        line.extend(b" / 6");
+    }
+    line.resize(length, b' ');
+    line
+}
+
 /// Makes trials with the files of one directory.
 struct Maker<'a> {
     runner: &'a Runner,
@@ -120,6 +134,7 @@ pub fn all(runner: &Runner, seed: u64) -> io::Result<Vec<Trial>> {
     maker.long_lines();
     maker.odd_bytes();
     maker.unreadable_lines();
+    maker.spoilt_pools();
     maker.random_input();
     maker.random_sheets();
     maker.made_sheets();
@@ -158,7 +173,7 @@ impl Maker<'_> {
 
     fn drill_sheet(&mut self, name: &str, sheet: Vec<u8>) {
         let arguments = vec![self.file("tried.sheet"), "22".into()];
-        let stdin = b"register\npage\nclose\ndefault 1 5 2:1\npayment 1 1\npage\n";
+        let stdin = b"register\npage\nclose\ndefault 1 5 2:1 / 6 2:1\npayment 1 1\npage\n";
         self.push(name, "run_drill", arguments, stdin);
         self.last_files(vec![("tried.sheet", sheet)]);
     }
@@ -229,6 +244,11 @@ impl Maker<'_> {
                 fill("", 0, ""),
                 fill("default 2 5 ", b' ', "3:1 4:2"),
                 fill("default 2 5 3:", b'0', "1 4:2"),
+                fill("default 2 5 3:1 4:2 /", b' ', "6 3:1 4:2"),
+                fill("default 2 5 3:1 4:2 / ", b'0', "6 3:1 4:2"),
+                fill("default 2 5 3:1 4:2", b' ', "/"),
+                fill("default 2 5 3:1 4:2 / 6 3:1 4:2 ", b'/', ""),
+                many_pools(length),
                 fill("page", b' ', ""),
             ];
             for line in lines {
@@ -271,7 +291,7 @@ impl Maker<'_> {
                 self.make(name, kind, lines.replace(from, to).as_bytes());
             }
         }
-        let lines: [&[u8]; 14] = [
+        let lines: [&[u8]; 19] = [
             b"\xef\xbb\xbfclose",
             b"close\0",
             b"close#\0\xff",
@@ -286,6 +306,11 @@ impl Maker<'_> {
             b"page\0",
             b"page\r",
             b"\x1a",
+            b"default 2 5 3:1 4:1\t/\t6 3:1 4:1",
+            b"default 2 5 3:1 4:1\0/ 6 3:1 4:1",
+            b"default 2 5 3:1 4:1 /\r",
+            b"default 2 5 3:1 4:1 \xef\xbc\x8f 6 3:1 4:1",
+            b"default 2 5 3:1 4:1 \\ 6 3:1 4:1",
         ];
         for line in lines {
             self.drill_about("odd bytes", line);
@@ -300,9 +325,22 @@ impl Maker<'_> {
         }
     }
 
+    /// A good default of two pools with one byte taken out, put in or changed.
+    fn spoilt_pools(&mut self) {
+        let good = b"default 2 500 3:1 4:2 / 60 4:2 3:1";
+        for at in 0..good.len() {
+            let with = |middle: &[u8], end: usize| [&good[..at], middle, &good[end..]].concat();
+            let mut lines = vec![with(b"", at + 1), with(b"/", at), with(b" / ", at)];
+            lines.extend(b"/ :0#".map(|byte| with(&[byte], at + 1)));
+            for line in lines {
+                self.drill_about("spoilt pools", &line);
+            }
+        }
+    }
+
     fn random_input(&mut self) {
         let words =
-            b"default payment replenishment close register page 0123456789 :::  #,,\n\n\n\r\0";
+            b"default payment replenishment close register page 0123456789 :::  // #,,\n\n\n\r\0";
         for _ in 0..150 {
             let length = self.rng.below(400) as usize;
             let any: Vec<u8> = (0..length).map(|_| self.rng.next() as u8).collect();
@@ -332,7 +370,7 @@ impl Maker<'_> {
         for _ in 0..self.rng.range(1, 4) {
             let at = self.rng.below(bytes.len() as u64) as usize;
             let byte = if self.rng.chance(50) {
-                self.rng.pick(b" \n#:,0919\r")
+                self.rng.pick(b" \n#:/,0919\r")
             } else {
                 self.rng.next() as u8
             };

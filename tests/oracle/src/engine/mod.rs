@@ -1,6 +1,7 @@
 //! The rules of the default fund and its loss waterfall, written for speed: nothing here allocates.
 
 mod page;
+mod pools;
 mod register;
 mod sheet;
 mod sizing;
@@ -30,6 +31,8 @@ pub const MISSING: u32 = u32::MAX;
 pub const MOST_JUNIOR: u8 = 24;
 /// How ranks write a missing rank.
 pub const MISSING_RANK: u8 = 255;
+/// A default names at most so many auction pools, and at least one.
+pub const MOST_POOLS: usize = 4;
 /// A default slip holds a layer 4 charge and then a call for each member.
 pub const DEFAULT_SLIP: usize = 2 * MEMBERS;
 

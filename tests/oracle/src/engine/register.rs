@@ -5,12 +5,13 @@ use super::waterfall::DefaultAnswer;
 use super::{Places, Refusal, LEAST_CONTRIBUTION, MAX_SUM, MEMBERS, MEMBER_SHEET_BYTES};
 
 /// A drill call is one of four, each with its own figures.
-#[derive(Clone, Copy, Debug, PartialEq, Eq)]
+#[derive(Clone, Debug, PartialEq, Eq)]
 pub enum Call {
+    /// The pools' losses, and their ranks one pool after another, 64 of each.
     Default {
         member: u64,
-        loss: u64,
-        ranks: [u8; MEMBERS],
+        losses: Vec<u64>,
+        ranks: Vec<u8>,
     },
     Payment {
         member: u64,
@@ -82,9 +83,9 @@ impl Register {
         match call {
             Call::Default {
                 member,
-                loss,
+                losses,
                 ranks,
-            } => return self.default(*member, *loss, ranks, slip).map(Some),
+            } => return self.default(*member, losses, ranks, slip).map(Some),
             Call::Payment { member, amount } => self.payment(*member, *amount)?,
             Call::Replenishment { member, amount } => self.replenishment(*member, *amount)?,
             Call::Close => self.close()?,

@@ -11,9 +11,10 @@ impl Split {
         Split { sum, weights }
     }
 
-    /// The share of the next member in rising order.
+    /// The share of the next member, or of the next pool, in rising order.
     ///
-    /// A weight is at most 400,000,000 and a sum below 46,000,000,000, so the product fits.
+    /// A member's weight is at most 400,000,000 and a sum below 46,000,000,000; a pool's weight is at
+    /// most 26,000,000,000 and a contribution at most 400,000,000: the product fits.
     #[inline]
     pub fn share(&mut self, weight: u64) -> u64 {
         if weight == 0 {

@@ -8,7 +8,7 @@ use crate::rng::Rng;
 use crate::text::{Console, Line};
 
 /// Lines that are nothing, or (all but one) that no console can read.
-pub const NOISE: [&str; 37] = [
+pub const NOISE: [&str; 63] = [
     "",
     "   ",
     "# a remark",
@@ -42,6 +42,32 @@ pub const NOISE: [&str; 37] = [
     "default 1 5 65:1",
     "default 1 5 2:1 2:1",
     "default 1 5 2: 2:",
+    "default 1 5 /",
+    "default 1 5 2:1 /",
+    "default 1 5 / # 6",
+    "default 1 5 / / 6 2:1",
+    "default 1 5 // 6 2:1",
+    "default 1 5 2:1 / 2:1",
+    "default 1 / 5 2:1",
+    "default / 1 5 2:1",
+    "/ default 1 5 2:1",
+    "default 1 5/6 2:1",
+    "default 1 5 /6 2:1",
+    "default 1 5 2:1/ 6",
+    "default 1 5 2:/ 6",
+    "default 1 5 / x 2:1",
+    "default 1 5 / 6 7",
+    "default 1 5 / 18446744073709551616",
+    "default 1 5 2:1 / 6 2:1 2:1",
+    "default 1 5 2:1 / 6 3: 3:",
+    "default 1 5 2:1 / 6 2:256",
+    "default 1 5 2:1 / 6 65:1",
+    "default 1 5 / 6 / 7 / 8 /",
+    "default 1 5 / 6 / 7 / 8 / x",
+    "default 1 5 / 6 / 7 / 8 / 9 2:256",
+    "default 1 5 / 6 / 7 / 8 / 9 / 10 2:1 2:1",
+    "payment 1 / 5",
+    "close /",
     "register all",
     "page 1",
     "pages",
@@ -191,7 +217,7 @@ impl Maker {
         }
         match self.rng.below(4) {
             0 => line += "# said so",
-            1 => line += "#2:1",
+            1 => line += self.rng.pick(&["#2:1", "# / 5"]),
             2 => line.truncate(line.trim_end().len()),
             _ => {}
         }
@@ -316,16 +342,136 @@ impl Maker {
     }
 
     fn declare(&mut self) {
-        let member = self.member();
-        let loss = match self.register().live_place(member) {
-            Ok(place) => self.loss(place),
-            Err(_) => self.rng.below(1_000),
+        let member = self.defaulter();
+        let losses = self.losses(member);
+        let faulty = if self.rng.chance(self.faults) {
+            self.rng.below(losses.len() as u64) as usize
+        } else {
+            losses.len()
         };
-        let mut words = vec!["default".into(), self.number(member), self.number(loss)];
-        words.extend(self.ranks(member));
+        let mut words = vec!["default".into(), self.number(member)];
+        for (pool, loss) in losses.into_iter().enumerate() {
+            if pool > 0 {
+                words.push("/".into());
+            }
+            words.push(self.number(loss));
+            words.extend(self.ranks(member, pool == faulty));
+        }
+        if self.rng.chance(4) {
+            self.spoil(&mut words);
+        }
         self.say(words);
         self.perhaps_page(25);
         self.say(vec!["register".into()]);
+    }
+
+    /// Now and then a member that owes a call, which then falls.
+    fn defaulter(&mut self) -> u64 {
+        let owing = self.places(|r, place| r.outstanding[place] > 0);
+        if owing.is_empty() || self.rng.chance(75) {
+            return self.member();
+        }
+        self.rng.pick(&owing) as u64 + 1
+    }
+
+    /// The losses of one or several pools.
+    fn losses(&mut self, member: u64) -> Vec<u64> {
+        let pools = match self.rng.weighted(&[40, 20, 15, 17, 6, 2]) {
+            5 => self.rng.range(6, 9) as usize,
+            less => less + 1,
+        };
+        let place = self.register().live_place(member);
+        let sum = match place {
+            Ok(place) if pools > 1 && self.rng.chance(10) => self.nearly_all(place),
+            Ok(place) => self.loss(place),
+            Err(_) => self.rng.below(1_000),
+        };
+        if pools == 1 {
+            return vec![sum];
+        }
+        let mut losses = self.divide(sum, pools);
+        match place {
+            Ok(place) if self.register().outstanding[place] > 0 => self.beside(place, &mut losses),
+            _ if self.rng.chance(5) => losses[0] = 0,
+            _ => {}
+        }
+        if self.rng.chance(3) {
+            let pool = self.rng.below(pools as u64) as usize;
+            losses[pool] = self.rng.pick(&[MAX_SUM, MAX_SUM + 1, u64::MAX]);
+        }
+        losses
+    }
+
+    /// A loss that takes nearly all of layer 4: rounding leaves a little of it to the last tie.
+    fn nearly_all(&mut self, place: usize) -> u64 {
+        let sums = layer_sums(self.register(), place);
+        let fallen = self.register().outstanding[place] as u64;
+        let loss = sums[..4].iter().sum::<u64>().saturating_sub(fallen);
+        loss.saturating_sub(self.rng.below(9)).min(MAX_SUM)
+    }
+
+    /// Losses beside a call that falls: none at all, about as much as others have, none in pool 1.
+    fn beside(&mut self, place: usize, losses: &mut Vec<u64>) {
+        let theirs = layer_sums(self.register(), place)[3];
+        match self.rng.weighted(&[15, 40, 45]) {
+            0 => losses.fill(0),
+            1 => {
+                let sum = self.rng.below(theirs + 10);
+                *losses = self.divide(sum, losses.len());
+            }
+            _ => {}
+        }
+        if self.rng.chance(30) {
+            losses[0] = 0;
+        }
+    }
+
+    /// A sum in so many parts: any, about alike, small but one, or halves of what is left; some are 0.
+    fn divide(&mut self, sum: u64, parts: usize) -> Vec<u64> {
+        let style = self.rng.below(4);
+        let mut left = sum;
+        let mut divided = Vec::new();
+        for to_come in (2..=parts as u64).rev() {
+            let part = match style {
+                _ if self.rng.chance(15) => 0,
+                0 => self.rng.below(left),
+                1 => left / to_come,
+                2 => left.min(self.rng.below(10)),
+                _ => left / 2,
+            };
+            divided.push(part);
+            left -= part;
+        }
+        divided.push(left);
+        if self.rng.chance(50) {
+            self.rng.shuffle(&mut divided);
+        }
+        divided
+    }
+
+    /// Spoils a default's words about a `/` of theirs, or anywhere.
+    fn spoil(&mut self, words: &mut Vec<String>) {
+        let last = words.len() - 1;
+        let slashes: Vec<usize> = (0..last).filter(|&at| words[at] == "/").collect();
+        let at = if slashes.is_empty() || self.rng.chance(20) {
+            self.rng.below(last as u64) as usize
+        } else {
+            self.rng.pick(&slashes)
+        };
+        match self.rng.below(9) {
+            0 => words.push("/".into()),
+            1 => words.insert(at, "/".into()),
+            2 => words[at] += "/",
+            3 => drop(words.remove(at)),
+            4 => drop(words.remove(at + 1)), // the loss
+            5 => words.swap(at, at + 1),
+            6 => words.push(words[last].clone()), // a second rank of one member
+            7 => words.insert(0, "/".into()),
+            _ => {
+                let next = words.remove(at + 1);
+                words[at] += &next;
+            }
+        }
     }
 
     /// A loss aimed at a layer: at its boundary, inside it, near its ends, or past all.
@@ -349,12 +495,12 @@ impl Maker {
         target.saturating_sub(fallen).min(MAX_SUM)
     }
 
-    /// The words `M:R` of a default of `member`.
-    fn ranks(&mut self, member: u64) -> Vec<String> {
+    /// The words `M:R` of one pool in a default of `member`.
+    fn ranks(&mut self, member: u64, faulty: bool) -> Vec<String> {
         let live = self.register().live;
         let read: Vec<u64> = Places(live).map(|p| p as u64 + 1).collect();
         let read: Vec<u64> = read.into_iter().filter(|&m| m != member).collect();
-        let fault = if !read.is_empty() && self.rng.chance(self.faults) {
+        let fault = if faulty && !read.is_empty() {
             self.rng.pick(&read)
         } else {
             0

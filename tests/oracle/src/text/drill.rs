@@ -48,23 +48,39 @@ fn read_pair<'a>(words: &mut impl Iterator<Item = &'a [u8]>) -> Option<(u64, u64
     Some((number(words.next()?)?, number(words.next()?)?))
 }
 
+/// A member and its pools: a word `/` begins each further one.
 fn read_default<'a>(words: &mut impl Iterator<Item = &'a [u8]>) -> Option<Call> {
     let (member, loss) = read_pair(words)?;
+    let (mut losses, mut ranks) = (vec![loss], Vec::with_capacity(MEMBERS));
+    while read_ranks(words, &mut ranks)? {
+        losses.push(number(words.next()?)?);
+    }
+    Some(Call::Default {
+        member,
+        losses,
+        ranks,
+    })
+}
+
+/// Adds the 64 ranks of one pool, and says whether a further pool follows.
+fn read_ranks<'a>(words: &mut impl Iterator<Item = &'a [u8]>, all: &mut Vec<u8>) -> Option<bool> {
     let mut ranks = [MISSING_RANK; MEMBERS];
     let mut named = 0u64;
-    for word in words {
+    let further = loop {
+        let word = match words.next() {
+            None => break false,
+            Some(b"/") => break true,
+            Some(word) => word,
+        };
         let (place, rank) = read_rank(word)?;
         if named >> place & 1 == 1 {
             return None;
         }
         named |= 1 << place;
         ranks[place] = rank;
-    }
-    Some(Call::Default {
-        member,
-        loss,
-        ranks,
-    })
+    };
+    all.extend(ranks);
+    Some(further)
 }
 
 /// A word `M:R`, or `M:` for a blank rank.
@@ -220,33 +236,109 @@ mod tests {
             reading("payment  000 18446744073709551615"),
             Reading::Call(Call::Payment { member, amount })
         );
-        let mut ranks = [255; MEMBERS];
-        ranks[1] = 7;
-        let (member, loss) = (1, 5);
         assert_eq!(
             reading("default 1 5 2:07 3:#4"),
-            Reading::Call(Call::Default {
-                member,
-                loss,
-                ranks
-            })
+            default_of_1(&[(5, &[(2, 7)])])
         );
+    }
+
+    /// A default of member 1 with these losses and ranks of its pools.
+    fn default_of_1(pools: &[(u64, &[(usize, u8)])]) -> Reading {
+        let mut ranks = Vec::new();
+        for (_, given) in pools {
+            let mut pool = [255; MEMBERS];
+            for &(member, rank) in *given {
+                pool[member - 1] = rank;
+            }
+            ranks.extend(pool);
+        }
+        Reading::Call(Call::Default {
+            member: 1,
+            losses: pools.iter().map(|pool| pool.0).collect(),
+            ranks,
+        })
     }
 
     #[test]
     fn ranks_that_fit_a_byte() {
-        let (member, loss) = (1, 5);
         for rank in [0, 24, 25, 64, 65, 255] {
-            let mut ranks = [255; MEMBERS];
-            ranks[1] = rank;
-            assert_eq!(
-                reading(&format!("default 1 5 2:{rank}")),
-                Reading::Call(Call::Default {
-                    member,
-                    loss,
-                    ranks
-                })
-            );
+            let line = format!("default 1 5 2:{rank}");
+            assert_eq!(reading(&line), default_of_1(&[(5, &[(2, rank)])]));
+        }
+    }
+
+    #[test]
+    fn readable_pools() {
+        assert_eq!(
+            reading("default 1 5 / 6"),
+            default_of_1(&[(5, &[]), (6, &[])])
+        );
+        assert_eq!(
+            reading(" default  1 5 2:1 3:2  /  06 3: 2:4   / 18446744073709551615 64:255 # / 7"),
+            default_of_1(&[
+                (5, &[(2, 1), (3, 2)]),
+                (6, &[(2, 4)]),
+                (u64::MAX, &[(64, 255)])
+            ])
+        );
+        assert_eq!(
+            reading("default 1 5 2:1# / x"),
+            default_of_1(&[(5, &[(2, 1)])])
+        );
+        assert_eq!(
+            reading("default 1 0 / 1 2:1 / 2 / 3 / 4 2:5 / 5"),
+            default_of_1(&[
+                (0, &[]),
+                (1, &[(2, 1)]),
+                (2, &[]),
+                (3, &[]),
+                (4, &[(2, 5)]),
+                (5, &[])
+            ])
+        );
+    }
+
+    #[test]
+    fn unreadable_pools() {
+        let lines = [
+            "/",
+            "/ default 1 5",
+            "default / 1 5",
+            "default 1 / 5",
+            "default 1 /",
+            "default 1 5 /",
+            "default 1 5 2:1 /",
+            "default 1 5 / #6",
+            "default 1 5 / / 6",
+            "default 1 5 // 6",
+            "default 1 5/6",
+            "default 1 5 /6",
+            "default 1 5/ 6",
+            "default 1 5 2:1/ 6",
+            "default 1 5 2:/ 6",
+            "default 1 5 /\t6",
+            "default 1 5 / 2:1",
+            "default 1 5 / x",
+            "default 1 5 / 6 7",
+            "default 1 5 / 18446744073709551616",
+            "default 1 5 2:1 / 6 2:1 2:1",
+            "default 1 5 2:1 / 6 2: 2:",
+            "default 1 5 2:1 2:1 / 6",
+            "default 1 5 / 6 2:256",
+            "default 1 5 / 6 65:1",
+            "default 1 1 / 2 / 3 / 4 /",
+            "default 1 1 / 2 / 3 / 4 / 2:1",
+            "default 1 1 / 2 / 3 / 4 / 18446744073709551616",
+            "default 1 1 / 2 / 3 / 4 / 5 2:256",
+            "default 1 1 / 2 / 3 / 4 / 5 / 6 2:1 2:1",
+            "payment 1 / 5",
+            "payment 1 5 /",
+            "close /",
+            "register /",
+            "page /",
+        ];
+        for line in lines {
+            assert_eq!(reading(line), Reading::Unreadable, "{line}");
         }
     }
 
@@ -308,6 +400,25 @@ mod tests {
         let expected = "opening accepted\n\
             refused 15\nrefused 15\nrefused 15\nunreadable line 4\n\
             accepted fallen 0 layers 5 0 0 0 0 0 short 0\n";
+        assert_eq!(printed(calls), expected);
+    }
+
+    #[test]
+    fn printed_pools() {
+        let calls = "default 1 1 / 1 / 1 / 1 / 1\n\
+            default 1 1 / 25600000001\n\
+            default 1 25600000000 / 1\n\
+            default 1 1 2:1 3:1 4:1 / 1 2:1 3:1 4:25\n\
+            default 1 1 2:1 3:1 4:1 / 1 2:1 3:1 3:1\n\
+            default 1 90000 2:1 3:2 4:2 / 10000 2:2 3:1 4:1\n\
+            default 1 1 / 1 / 1 / 1 / 1\n";
+        let expected = "opening accepted\n\
+            refused 21\nrefused 13\nrefused 22\nrefused 15\nunreadable line 5\n\
+            accepted fallen 0 layers 50000 20000 13200 16800 0 0 short 0\n  \
+              member 2 charged 10000 called 0\n  \
+              member 3 charged 2266 called 0\n  \
+              member 4 charged 4534 called 0\n\
+            refused 12\n";
         assert_eq!(printed(calls), expected);
     }
 

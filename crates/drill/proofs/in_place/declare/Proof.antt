@@ -43,7 +43,10 @@ use denote.Triple.Clauses.{Lasts, ensured, lasts}
 use denote.Exit.{yes}
 use Rattle.waterfall.specs.Register.{GivenBack}
 use Rattle.waterfall.specs.Reply.{Says}
-use Rattle.waterfall.specs.Default.{allocationOf, defaultRefusal, defaultOf, defaultSlip}
+use Rattle.waterfall.specs.Pools.{pooledAllocation, pooledRefusal, pooledOf, pooledSlip}
+use Rattle.admission.specs.declared.Pools.{Pools}
+use Rattle.admission.proofs.Pools as P
+use Rattle.admission.proofs.Pools.Laws as P′
 use Rattle.waterfall.specs.declared.Register.{Register}
 use Rattle.waterfall.specs.declared.Outcome.{Outcome}
 use Rattle.waterfall.proofs.Register as T
@@ -64,24 +67,27 @@ use Rattle.drill.proofs.in_place.declare.Statement as stated
 use Rattle.drill.proofs.in_place.declare.Code as code
 
 abbrev Arg : Type 0
-Arg = RefT Register × (ℕ × (ℕ × (RefT (List ℕ) × (RefT (List ℕ) × Unit {0}))))
+Arg = RefT Register × (ℕ × (Pools × (RefT (List ℕ) × (RefT (List ℕ) × Unit {0}))))
 
 abbrev stayed : Stays (declare.ended .signature .params) (declare.ended .kept)
-stayed = (stay-ref (0 ∷ []) tt (plain (λ _. T.the-row)), (stay-dropped (plain (λ _. u64)) yes, (stay-dropped (plain (λ _. u64)) yes, (stay-dropped (shrSliceOf (1 ∷ []) tt (plain (λ _. u8))) yes, (gave-slice (2 ∷ []) tt (plain (λ _. u64)), tt)))))
+stayed = (stay-ref (0 ∷ []) tt (plain (λ _. T.the-row)), (stay-dropped (plain (λ _. u64)) yes, (stay-dropped (plain (λ _. P.the-row)) yes, (stay-dropped (shrSliceOf (1 ∷ []) tt (plain (λ _. u8))) yes, (gave-slice (2 ∷ []) tt (plain (λ _. u64)), tt)))))
 
 -- the contract that the proof cites
 abbrev Call : {M : Type 1} (𝓤 : URA M) (H : Heap 𝓤) (A : Atoms 𝓤) (at-mem : Memory → SProp 𝓤) (run : Routine → Fun 𝓤) → Contract 𝓤
 Call 𝓤 H A at-mem run = tripleOf 𝓤 H A call.signature (call.spec 𝓤 H A at-mem run)
 
 module _ {M : Type 1} (𝓤 : URA M) (H : Heap 𝓤) (A : Atoms 𝓤) (W : Given 𝓤 H A) (at-mem : Memory → SProp 𝓤) (run : Routine → Fun 𝓤) (κ κ₁ κ₂ : Lft) (q q₁ q₂ : Share)
-    (b o : ℕ) (γ : GName) (h : Register) (n m : ℕ) (fn : n < 2 ^ 64) (fm : m < 2 ^ 64) (ranks : RefT (List ℕ)) (b₂ o₂ : ℕ) (γ₂ : GName) (slip : List ℕ) (room₁ : Room u8 (length (ranks .now))) (room₂ : Room u64 (length slip)) where
+    (b o : ℕ) (γ : GName) (h : Register) (n : ℕ) (m : Pools) (fn : n < 2 ^ 64) (are-pools : Is P.the-row m (LL.vals P.the-type P′.the-laws m)) (ranks : RefT (List ℕ)) (b₂ o₂ : ℕ) (γ₂ : GName) (slip : List ℕ) (room₁ : Room u8 (length (ranks .now))) (room₂ : Room u64 (length slip)) where
   abbrev y : RefT (List ℕ)
   y = record { ptr = (b₂, o₂); name = γ₂; now = slip }
 
   abbrev x : Arg
   x = (record { ptr = (b, o); name = γ; now = h }, (n, (m, (ranks, (y, tt)))))
 
-  -- the machine values of the ranks and of the slip
+  -- the machine values of the pools, of the ranks and of the slip
+  abbrev v₀ : Val
+  v₀ = LL.val P.the-type P′.the-laws m
+
   abbrev v₁ : Val
   v₁ = sliceVal (ranks .ptr) (length (ranks .now))
 
@@ -89,7 +95,7 @@ module _ {M : Type 1} (𝓤 : URA M) (H : Heap 𝓤) (A : Atoms 𝓤) (W : Given
   v₂ = sliceVal (b₂, o₂) (length slip)
 
   abbrev at : List Val × (List Val × (List Val × (List Val × (List Val × Unit {0}))))
-  at = (vptr b o ∷ [], (vint w64 n ∷ [], (vint w64 m ∷ [], (v₁ ∷ [], (v₂ ∷ [], tt)))))
+  at = (vptr b o ∷ [], (vint w64 n ∷ [], (v₀ ∷ [], (v₁ ∷ [], (v₂ ∷ [], tt)))))
 
   abbrev Post : Val → SProp 𝓤
   Post = walkOf 𝓤 H A declare.ended stayed (declare.clauses 𝓤 H A at-mem run) .post (((κ, (κ₁, (κ₂, tt))), (q, (q₁, (q₂, tt))), tt, x, at), tt)
@@ -99,13 +105,13 @@ module _ {M : Type 1} (𝓤 : URA M) (H : Heap 𝓤) (A : Atoms 𝓤) (W : Given
   toks = ‵ (flft κ₁ q₁) ⊛ ‵ (flft κ₂ q₂) ⊛ ‵ ftrue
 
   abbrev Answers : Outcome → Type 0
-  Answers r = r ≡ defaultOf h n m (ranks .now) slip
+  Answers r = r ≡ pooledOf h n m (ranks .now) slip
 
   abbrev Said : Outcome → Type 0
-  Said r = Says (r .reply) (defaultRefusal h n m (ranks .now) slip) (allocationOf h n m (ranks .now))
+  Said r = Says (r .reply) (pooledRefusal h n m (ranks .now) slip) (pooledAllocation h n m (ranks .now))
 
   abbrev Leaves : List ℕ → Type 0
-  Leaves zs = zs ≡ defaultSlip h n m (ranks .now) slip
+  Leaves zs = zs ≡ pooledSlip h n m (ranks .now) slip
 
   exits : (r : Outcome) (zs : List ℕ) → Answers r → Leaves zs → GivenBack (r .register) → Said r → length zs ≡ length slip → Is R.the-row (r .reply) (reply-val r ∷ [])
       → ent 𝓤 (⋆ 𝓤 H A (‵ (fobs γ (T.the-row .coded .code (r .register))) ∷ ‵ (fbor κ (Body (mem T.the-row) b o γ)) ∷ ‵ (flft κ q) ∷ toks ∷ ‵ (finally u64 γ₂ zs) ∷ [])) (Post (reply-val r))
@@ -120,19 +126,19 @@ module _ {M : Type 1} (𝓤 : URA M) (H : Heap 𝓤) (A : Atoms 𝓤) (W : Given
   abbrev to : Call 𝓤 H A at-mem run .Ghost
   to = (((κ₁, (κ₂, tt)), (q₁, (q₂, tt)), tt, (h, (n, (m, (ranks, (y, tt))))), (vals h, at .1)), tt)
 
-  goes-call : GivenBack h → Is T.the-row h (vals h) → ent 𝓤 (⋆ 𝓤 H A (toks ∷ ‵ (owns (u64 ∷ u64 ∷ ShrSlice (named 1) κ₁ u8 ∷ MutSlice (named 2) κ₂ u64 ∷ []) (x .1) (at .1)) ∷ [])) (Call 𝓤 H A at-mem run .pre to)
+  goes-call : GivenBack h → Is T.the-row h (vals h) → ent 𝓤 (⋆ 𝓤 H A (toks ∷ ‵ (owns (u64 ∷ P.the-row ∷ ShrSlice (named 1) κ₁ u8 ∷ MutSlice (named 2) κ₂ u64 ∷ []) (x .1) (at .1)) ∷ [])) (Call 𝓤 H A at-mem run .pre to)
   goes-call given is =
-      qed W (toks ∷ ‵ (owns (u64 ∷ u64 ∷ ShrSlice (named 1) κ₁ u8 ∷ MutSlice (named 2) κ₂ u64 ∷ []) (x .1) (at .1)) ∷ []) ∵ says ! given $ frame ! $
+      qed W (toks ∷ ‵ (owns (u64 ∷ P.the-row ∷ ShrSlice (named 1) κ₁ u8 ∷ MutSlice (named 2) κ₂ u64 ∷ []) (x .1) (at .1)) ∷ []) ∵ says ! given $ frame ! $
       owned ! T.the-row (Is T.the-row) (LL.makes T.the-type T′.the-plain 𝓤 H A) h _ is $ fjoin ! $ done !
 
   module _ (C : Calls 𝓤 H) (Λ : Loops 𝓤 H) (mono : FmC 𝓤 H (W .laws) C) (known : Triple 𝓤 (C #waterfall·declaration·declare) (Call 𝓤 H A at-mem run)) where
-    walk : GivenBack h → ent 𝓤 (onEntry 𝓤 H A declare.signature (κ, (κ₁, (κ₂, tt))) (q, (q₁, (q₂, tt))) x at) (WpFn 𝓤 H C Λ code.function (vptr b o ∷ vint w64 n ∷ vint w64 m ∷ v₁ ∷ v₂ ∷ []) Post)
+    walk : GivenBack h → ent 𝓤 (onEntry 𝓤 H A declare.signature (κ, (κ₁, (κ₂, tt))) (q, (q₁, (q₂, tt))) x at) (WpFn 𝓤 H C Λ code.function (vptr b o ∷ vint w64 n ∷ v₀ ∷ v₁ ∷ v₂ ∷ []) Post)
     walk given =
-        qed W ((‵ (flft κ q) ⊛ toks) ∷ ‵ (owns (MutRef (named 0) κ T.the-row ∷ u64 ∷ u64 ∷ ShrSlice (named 1) κ₁ u8 ∷ MutSlice (named 2) κ₂ u64 ∷ []) x at) ∷ []) ∵ split ! $ move ! (2 ∷ []) $ fsplit ! $ fsplit3 ! $ drop ! $ move ! (0 ∷ 1 ∷ 3 ∷ []) $
+        qed W ((‵ (flft κ q) ⊛ toks) ∷ ‵ (owns (MutRef (named 0) κ T.the-row ∷ u64 ∷ P.the-row ∷ ShrSlice (named 1) κ₁ u8 ∷ MutSlice (named 2) κ₂ u64 ∷ []) x at) ∷ []) ∵ split ! $ move ! (2 ∷ []) $ fsplit ! $ fsplit3 ! $ drop ! $ move ! (0 ∷ 1 ∷ 3 ∷ []) $
         -- [obs; the borrow; its token; what the figures, the ranks and the slip own; the other tokens]
-        enter ! C Λ code.function (vptr b o ∷ vint w64 n ∷ vint w64 m ∷ v₁ ∷ v₂ ∷ []) _ $
+        enter ! C Λ code.function (vptr b o ∷ vint w64 n ∷ v₀ ∷ v₁ ∷ v₂ ∷ []) _ $
         alloc1 ! (λ l₀. alloc1 ! (λ l₁. alloc1 ! (λ l₂. alloc1 ! (λ l₃. alloc1 ! (λ l₄. alloc1 ! (λ l₅. alloc1 ! (λ l₆. alloc1 ! (λ l₇. alloc1 ! (λ l₈. alloc1 ! (λ l₉. alloc0 ! $ params1 ! $
-        pass1 ! (init ! 16 refl (tt, tt)) $ pass1 ! (init ! 14 refl (tt, record { fits = fn })) $ pass1 ! (init ! 12 refl (tt, record { fits = fm })) $
+        pass1 ! (init ! 16 refl (tt, tt)) $ pass1 ! (init ! 14 refl (tt, record { fits = fn })) $ pass1 ! (init ! 12 refl (LL.lawful P.the-type P′.the-laws 𝓤 H A W .typed m (v₀ ∷ []) are-pools .0)) $
         pass1 ! (init ! 10 refl (tt, (tt, (record { fits = room₁ .0 }, tt)))) $ pass1 ! (init ! 8 refl (tt, (tt, (record { fits = room₂ .0 }, tt)))) $ pass0 ! $
         move ! (20 ∷ 21 ∷ 22 ∷ []) $ opens ! tt T.the-row {h = h} b o (λ vs. spelt ! T.the-row (Is T.the-row) (shows 𝓤 H A T.the-row) vals (LL.tells T.the-type T′.the-laws) fullShare h vs b o $
         move ! (1 ∷ []) $ peeks ! T.the-row (Is T.the-row) (shows 𝓤 H A T.the-row) h (vals h) (λ is. drop ! $
@@ -162,11 +168,11 @@ module _ {M : Type 1} (𝓤 : URA M) (H : Heap 𝓤) (A : Atoms 𝓤) (W : Given
 
 module _ {M : Type 1} (𝓤 : URA M) (H : Heap 𝓤) (A : Atoms 𝓤) (W : Given 𝓤 H A) (at-mem : Memory → SProp 𝓤) (run : Routine → Fun 𝓤) where
   walks : (C : Calls 𝓤 H) (Λ : Loops 𝓤 H) → FmC 𝓤 H (W .laws) C → Triple 𝓤 (C #waterfall·declaration·declare) (Call 𝓤 H A at-mem run) → Walks 𝓤 H A declare.ended stayed (WpFn 𝓤 H C Λ code.function) (declare.clauses 𝓤 H A at-mem run)
-  walks C Λ mono known = walked 𝓤 H A declare.ended stayed (declare.clauses 𝓤 H A at-mem run) (WpFn 𝓤 H C Λ code.function) (λ κs. (ptr-vals, (uint-vals w64, (uint-vals w64, (slice-vals, (slice-vals, tt))))))
-      (λ κs. (mut-tells (named 0) (κs .0) T.the-row, (uint-tells w64, (uint-tells w64, (shr-slice-tells (named 1) (κs .1 .0) u8, (mut-slice-tells (named 2) (κs .1 .1 .0) u64, tt))))))
+  walks C Λ mono known = walked 𝓤 H A declare.ended stayed (declare.clauses 𝓤 H A at-mem run) (WpFn 𝓤 H C Λ code.function) (λ κs. (ptr-vals, (uint-vals w64, (LL.vals P.the-type P′.the-laws, (slice-vals, (slice-vals, tt))))))
+      (λ κs. (mut-tells (named 0) (κs .0) T.the-row, (uint-tells w64, (LL.tells P.the-type P′.the-laws, (shr-slice-tells (named 1) (κs .1 .0) u8, (mut-slice-tells (named 2) (κs .1 .1 .0) u64, tt))))))
       (λ κs qs bounds a g are. needs 𝓤 (GivenBack (a .0 .now)) _ (λ given.
       let slip : RefT (List ℕ) = a .1 .1 .1 .1 .0 in
-      walk 𝓤 H A W at-mem run (κs .0) (κs .1 .0) (κs .1 .1 .0) (qs .0) (qs .1 .0) (qs .1 .1 .0) (a .0 .ptr .0) (a .0 .ptr .1) (a .0 .name) (a .0 .now) (a .1 .0) (a .1 .1 .0) (are .1 .0 .1) (are .1 .1 .0 .1)
+      walk 𝓤 H A W at-mem run (κs .0) (κs .1 .0) (κs .1 .1 .0) (qs .0) (qs .1 .0) (qs .1 .1 .0) (a .0 .ptr .0) (a .0 .ptr .1) (a .0 .name) (a .0 .now) (a .1 .0) (a .1 .1 .0) (are .1 .0 .1) (are .1 .1 .0)
       (a .1 .1 .1 .0) (slip .ptr .0) (slip .ptr .1) (slip .name) (slip .now) (are .1 .1 .1 .0 .0 .1) (are .1 .1 .1 .1 .0 .0 .1) C Λ mono known given))
 
   goes : AllGo 𝓤 H A W 3 (declare.signature .params) (declare.ended .kept) stayed
@@ -175,7 +181,7 @@ module _ {M : Type 1} (𝓤 : URA M) (H : Heap 𝓤) (A : Atoms 𝓤) (W : Given
     (
       goes-dropped 𝓤 H A W 3 (plain (λ _. u64)) yes (λ κs x f. refl),
       (
-        goes-dropped 𝓤 H A W 3 (plain (λ _. u64)) yes (λ κs x f. refl),
+        goes-dropped 𝓤 H A W 3 (plain (λ _. P.the-row)) yes (λ κs x f. refl),
         (goes-dropped 𝓤 H A W 3 (shrSliceOf (1 ∷ []) tt (plain (λ _. u8))) yes (λ κs x f. refl), (goes-gave-slice 𝓤 H A W 3 2 tt (plain (λ _. u64)), tt)),
       ),
     ),

@@ -7,25 +7,25 @@ use lib.ListN.{length}
 use Rattle.lists.specs.Limits.{memberLimit}
 use Rattle.lists.specs.Sums.{total}
 use Rattle.figures.specs.Figures.{figure}
-use Rattle.admission.specs.Admission.{admission}
+use Rattle.admission.specs.Admission.{poolsAdmission}
 use Rattle.waterfall.proofs.Placing.{Placeable, Places, Settles, refused-early, refused-late, accepted-so, placeable, allocatable, placed-so, called-total, settles-so, can-take, can-add, settled-as}
 use Rattle.waterfall.proofs.declaration.declare.Statement.{statement}
 use Rattle.waterfall.proofs.declaration.declare.Tie as tie
 
--- past 11 to 15
+-- past 11 to 15, 21 and 22
 module _ (c : tie.Else1) where
   abbrev begun : tie.Start
   begun = c .before .before .before .before .before
 
-  early-none : let a = begun .args in admission (a .t1 .status) (a .member) (a .loss) (a .ranks .now) (length (a .slip .now)) 0 ≡ 0
+  early-none : let a = begun .args in poolsAdmission (a .t1 .status) (a .member) (a .pools) (a .ranks .now) (length (a .slip .now)) 0 ≡ 0
   early-none =
       let z : c .before .default-refusal .result ≡ 0 = omega arith in
       sym (c .before .default-refusal .ensures) ∙ z
 
-  can : let a = begun .args in Placeable (a .t1) (a .member) (a .loss) (a .ranks .now) × (memberLimit + memberLimit ≤ length (a .slip .now))
+  can : let a = begun .args in Placeable (a .t1) (a .member) (a .pools) (a .ranks .now) × (memberLimit + memberLimit ≤ length (a .slip .now))
   can =
       let a = begun .args in
-      placeable (a .t1) (a .member) (a .loss) (a .ranks .now) (a .slip .now) (begun .pre) early-none
+      placeable (a .t1) (a .member) (a .pools) (a .ranks .now) (a .slip .now) (begun .pre) early-none
 
 -- what is placed
 module _ (s : tie.After-allocate) where
@@ -42,7 +42,7 @@ module _ (s : tie.After-allocate) where
   fallen-is = s .allocate .ensures .fallen-is
 
   placed : let a = start .args in let x = s .allocate .result in
-      Places (a .t1) (a .member) (a .loss) (a .ranks .now)
+      Places (a .t1) (a .member) (a .pools) (a .ranks .now)
       (record {
         fallen = x .fallen;
         margin = x .margin;
@@ -56,7 +56,7 @@ module _ (s : tie.After-allocate) where
       (x .charges) (x .called) (x .over)
   placed =
       let a = start .args in
-      placed-so (a .t1) (a .member) (a .loss) (a .ranks .now) (can passed .0) (s .allocate .result) (s .allocate .ensures)
+      placed-so (a .t1) (a .member) (a .pools) (a .ranks .now) (can passed .0) (s .allocate .result) (s .allocate .ensures)
 
   settled : let a = start .args in let x = s .allocate .result in
       Settles (a .t1) (a .member) (x .margin) (x .contribution) (x .tranche1) (x .tranche2) (x .charges) (x .called)
@@ -65,7 +65,7 @@ module _ (s : tie.After-allocate) where
   whole : let x = s .allocate .result in x .calls ≡ total (x .called)
   whole =
       let a = start .args in
-      called-total (a .t1) (a .member) (a .loss) (a .ranks .now) (can passed .0) (s .allocate .result) (s .allocate .ensures)
+      called-total (a .t1) (a .member) (a .pools) (a .ranks .now) (can passed .0) (s .allocate .result) (s .allocate .ensures)
 
 -- what comes before the register changes
 abbrev tested : tie.After-slice-known2 → tie.After-allocate
@@ -78,19 +78,19 @@ returns : tie.Need-returns
 returns c =
     let b = c .before .before .before .before .before in
     let a = b .args in
-    refused-early (a .t1) (a .member) (a .loss) (a .ranks .now) (a .slip .now) (b .pre) _ (c .before .default-refusal .ensures) (c .if1 .taken)
+    refused-early (a .t1) (a .member) (a .pools) (a .ranks .now) (a .slip .now) (b .pre) _ (c .before .default-refusal .ensures) (c .if1 .taken)
 
 allocate-requires : tie.Need-allocate-requires
 allocate-requires c κs =
     let e = c .before .before .before .before .before .before in
     let a = begun e .args in
-    allocatable (a .t1) (a .member) (a .loss) (a .ranks .now) (can e .0)
+    allocatable (a .t1) (a .member) (a .pools) (a .ranks .now) (can e .0)
 
 returns-2 : tie.Need-returns-2
 returns-2 c =
     let s = c .before in
     let a = start s .args in
-    refused-late (a .t1) (a .member) (a .loss) (a .ranks .now) (a .slip .now) (start s .pre) (early-none (passed s)) (sym (placed s .over-is) ∙ c .if2 .taken)
+    refused-late (a .t1) (a .member) (a .pools) (a .ranks .now) (a .slip .now) (start s .pre) (early-none (passed s)) (sym (placed s .over-is) ∙ c .if2 .taken)
 
 tell-requires : tie.Need-tell-requires
 tell-requires c κs =
@@ -150,7 +150,7 @@ returns-3 c =
     let w = r .before .before .before .before .before .before .before in
     let s = tested w in
     let a = start s .args in
-    accepted-so (a .t1) (a .member) (a .loss) (a .ranks .now) (a .slip .now) (start s .pre) _ _ _ _ (placed s) (early-none (passed s)) (w .before .before .before .before .if2 .left) _
+    accepted-so (a .t1) (a .member) (a .pools) (a .ranks .now) (a .slip .now) (start s .pre) _ _ _ _ (placed s) (early-none (passed s)) (w .before .before .before .before .if2 .left) _
     (settled-as (a .t1) (a .member) _ _ _ _ _ _ _ (r .before .before .before .before .before .before .defaulted .ensures) (r .before .before .before .before .lower .ensures) (r .before .before .lower2 .ensures) (t .take-from .ensures) (r .lower3 .ensures) (o .add-to .ensures) (c .add-to2 .ensures) (fallen-is s))
     _ (w .before .before .tell .ensures)
 

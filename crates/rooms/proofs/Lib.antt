@@ -1,0 +1,3 @@
+-- The laws that the proofs of `rooms` and of the crates above cite.
+pub mod Places
+pub mod Shares

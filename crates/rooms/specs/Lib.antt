@@ -1,0 +1,3 @@
+-- The definitions that the contracts of `rooms` and of the crates above cite.
+pub mod Rooms
+pub mod Parts

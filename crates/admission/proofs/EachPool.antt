@@ -1,6 +1,6 @@
 -- Laws of what is tried on each pool.
 use Prim.Native.Nat.{ℕ, zero, suc, _+_, _-_, _*_, _≤_, _<_, zero-le}
-use mathlib.Core.Path.{_≡_, refl, ap, sym, _∙_}
+use mathlib.Core.Path.{_≡_, ap, _∙_}
 use mathlib.Core.Bool.{Bool, false, _||_}
 use mathlib.Core.List.{List, [], _∷_}
 use mathlib.Core.Logic.{⊎-elim}
@@ -10,11 +10,12 @@ use native.Mathlib.Omega.{arith}
 use borrow.Author.Tests.{ltb-false}
 use lib.Dec.{ltb}
 use lib.ListN.{length, getD, take, drop, length-drop, drop-of-length-le}
-use lib.Seq.{length-take-le, getD-take, drop-cons}
+use lib.Seq.{length-take-le}
 use Rattle.lists.specs.Limits.{memberLimit, poolLimit, sumLimit}
 use Rattle.lists.specs.Sums.{total}
+use Rattle.lists.proofs.Cases.{counted-next}
 use Rattle.lists.proofs.Checks.{neither}
-use Rattle.lists.proofs.Sums.{total-step, total-bound}
+use Rattle.lists.proofs.Sums.{total-bound}
 use Rattle.admission.specs.Admission.{misranked, lossesOf, poolRanks, excessiveLosses, poolsMisranked}
 use Rattle.admission.specs.declared.Pools.{Pools}
 
@@ -29,14 +30,14 @@ module _ (losses : List ℕ) (count : ℕ) (h : count ≤ length losses) (p : �
 
   pub excessive-step : p < count → excessiveLosses (drop p counted) ≡ (ltb sumLimit (getD losses p 0) || excessiveLosses (drop (p + 1) counted))
   unfolding excessiveLosses
-  excessive-step l = rw (← getD-take count losses p 0 l, add-one, drop-cons counted p 0 (omega (arith, length-counted)))
+  excessive-step l = rw (counted-next losses count h p l)
 
   pub excessive-end : count ≤ p → excessiveLosses (drop p counted) ≡ false
   unfolding excessiveLosses
   excessive-end l = rw (drop-of-length-le counted {i = p} (omega (arith, length-counted)))
 
   pub total-counted : p < count → total (drop p counted) ≡ getD losses p 0 + total (drop (p + 1) counted)
-  total-counted l = omega (arith, total-step counted p (omega (arith, length-counted)), getD-take count losses p 0 l)
+  total-counted l = rw (counted-next losses count h p l)
 
 -- as many losses as pools
 pub length-losses : (pools : Pools) → pools .count ≤ poolLimit → length (lossesOf pools) ≡ pools .count

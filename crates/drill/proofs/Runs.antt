@@ -9,7 +9,7 @@ use Rattle.figures.specs.Figures.{live, inDefault, figure}
 use Rattle.waterfall.specs.Register.{GivenBack}
 use Rattle.waterfall.specs.Reply.{layer1, layer2, layer3, layer4, layer5, layer6}
 use Rattle.waterfall.specs.declared.Register.{Register}
-use Rattle.drill.specs.Drill.{Step, Event, eventOf, appliedOf, slipLeft, trace}
+use Rattle.drill.specs.Drill.{Step, Event, eventOf, trace}
 use Rattle.drill.specs.Counting.{accepted, defaults, isClose, lossIn, shortIn, fallenIn, fallenBy, layerIn, layerBy, chargeOn, callOn, paidBy, replenishedBy, sumOver, lastRegister, defaulted, calledSince}
 use Rattle.drill.specs.declared.DrillCall.{DrillCall}
 use Rattle.drill.specs.declared.DrillCall.the-variants.{Default, Payment, Replenishment, Close}

@@ -8,11 +8,15 @@ use native.Mathlib.Omega.{arith}
 use borrow.Author.Tests.{leb-true, leb-false}
 use lib.Dec.{leb}
 use lib.ListN.{length, getD, take, drop, length-append}
-use lib.Seq.{drop-cons, take-at, drop-at}
+use lib.Seq.{length-take-le, getD-take, drop-cons, take-at, drop-at}
 
 pub and-false : (a : Bool) → (a && false) ≡ false
 and-false true = refl
 and-false false = refl
+
+pub or-false : (a : Bool) → (a || false) ≡ a
+or-false true = refl
+or-false false = refl
 
 pub not-or : (a b : Bool) → (not a && not b) ≡ not (a || b)
 not-or true b = refl
@@ -32,6 +36,10 @@ by-le {P} m n f g = go (leb m n) refl
 -- what is left from a place on, by its first number
 pub drop-next : (s : List ℕ) (i : ℕ) → i < length s → drop i s ≡ getD s i 0 ∷ drop (i + 1) s
 drop-next s i h = rw (add-one, drop-cons s i 0)
+
+-- the same of the first n numbers of a list
+pub counted-next : (s : List ℕ) (n : ℕ) → n ≤ length s → (i : ℕ) → i < n → drop i (take n s) ≡ getD s i 0 ∷ drop (i + 1) (take n s)
+counted-next s n h i l = rw (← getD-take n s i 0 l, add-one, drop-cons (take n s) i 0 (omega (arith, length-take-le n s h)))
 
 -- two lists cut into a front and a back, the backs as long as each other: where the wholes are equal, fronts and backs are
 pub append-apart : (xs ys vs ws : List ℕ) → length ys ≡ length ws → xs ++ ys ≡ vs ++ ws → (xs ≡ vs) × (ys ≡ ws)

@@ -72,6 +72,16 @@ unfolding check
 check-past true a b n q = absurd (n q)
 check-past false a b n q = (refl, q)
 
+-- two checks that hold alike, and whose rests are the same where they do not; a check that never holds
+pub check-same : {A : Type 0} (t u : Bool) (a b c : A) → t ≡ u → (u ≡ false → b ≡ c) → check t a b ≡ check u a c
+unfolding check
+check-same t true a b c e h = rw e
+check-same t false a b c e h = rw e (h refl)
+
+pub check-skip : {A : Type 0} (t : Bool) (a b c : A) → t ≡ false → b ≡ c → check t a b ≡ c
+unfolding check
+check-skip t a b c e h = rw e h
+
 -- where one of two tests or the other would hold and none does, neither does
 pub neither : (a b : Bool) → (a || b) ≡ false → (a ≡ false) × (b ≡ false)
 neither true b e = absurd (true≢false e)

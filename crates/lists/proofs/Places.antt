@@ -49,6 +49,11 @@ map-set f [] i x = refl
 map-set f (y ∷ ys) zero x = refl
 map-set f (y ∷ ys) (suc i) x = ap (λ zs. f y ∷ zs) (map-set f ys i x)
 
+-- a function that changes no number changes no list
+pub map-same : (f : ℕ → ℕ) → ((x : ℕ) → f x ≡ x) → (xs : List ℕ) → map f xs ≡ xs
+map-same f h [] = refl
+map-same f h (x ∷ xs) = rw (h x, map-same f h xs)
+
 -- one of two numbers is the less, or they are equal
 pub by-order : {A : Type 0} (m n : ℕ) → (m < n → A) → (m ≡ n → A) → (n < m → A) → A
 by-order m n l e g = ⊎-elim (λ z. ⊎-elim e l (eq-or-lt-of-le (omega arith))) (λ p. g (omega arith)) (eq-zero-or-pos (m - n))

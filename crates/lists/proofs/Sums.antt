@@ -3,7 +3,7 @@ use Prim.Native.Nat.{ℕ, zero, suc, _+_, _-_, _*_, _≤_, _<_, zero-le}
 use mathlib.Core.Path.{_≡_, refl, ap, sym, _∙_}
 use mathlib.Core.Bool.{Bool, true, false, cond, false≢true}
 use mathlib.Core.List.{List, [], _∷_, map}
-use native.Mathlib.Nat.{add-assoc, mul-suc}
+use native.Mathlib.Nat.{add-assoc, mul-suc, sub-zero}
 use native.Mathlib.Numerals.{add-one}
 use native.Mathlib.Omega.{arith}
 use lib.ListN.{length, getD, drop, set, replicate, drop-of-length-le}
@@ -70,6 +70,18 @@ all-zeros [] e = refl
 all-zeros (x ∷ xs) e =
     let z : x ≡ 0 = omega arith in
     rw (z, ← all-zeros xs (omega arith))
+
+-- a number raised raises the total
+pub total-raised : (xs : List ℕ) (p x : ℕ) → p < length xs → total (set xs p (getD xs p 0 + x)) ≡ total xs + x
+total-raised [] p x h = absurd (omega arith)
+total-raised (y ∷ xs) zero x h = omega arith
+total-raised (y ∷ xs) (suc p) x h = omega (arith, total-raised xs p x (omega arith))
+
+-- a number by itself is the total
+pub single : (xs : List ℕ) → length xs ≡ 1 → xs ≡ total xs ∷ []
+single [] e = absurd (omega arith)
+single (x ∷ []) e = let z : x + 0 ≡ x = omega arith in rw z
+single (x ∷ y ∷ xs) e = absurd (omega arith)
 
 -- sums place by place ------------------------------------------------------------
 
@@ -138,6 +150,14 @@ pub minus-step : (xs ys : List ℕ) (i : ℕ) → i < length xs → i < length y
     → minus (drop i xs) (drop i ys) ≡ (getD xs i 0 - getD ys i 0) ∷ minus (drop (i + 1) xs) (drop (i + 1) ys)
 minus-step xs ys i h k = rw (add-one, drop-cons xs i 0, drop-cons ys i 0)
 
+-- a list of zeros takes nothing
+pub minus-none : (xs ys : List ℕ) → total ys ≡ 0 → minus xs ys ≡ xs
+minus-none [] ys z = refl
+minus-none (x ∷ xs) [] z = refl
+minus-none (x ∷ xs) (y ∷ ys) z =
+    let e : y ≡ 0 = omega arith in
+    rw (e, sub-zero, minus-none xs ys (omega arith))
+
 -- kept places ----------------------------------------------------------------------
 
 pub length-keep : (bs : List Bool) (xs : List ℕ) → length bs ≡ length xs → length (keep bs xs) ≡ length xs
@@ -173,6 +193,16 @@ unkept bs xs k e = getD-keep bs xs k ∙ ap (λ (b : Bool). cond b (getD xs k 0)
 pub keep-step : (bs : List Bool) (xs : List ℕ) (i : ℕ) → i < length bs → i < length xs
     → keep (drop i bs) (drop i xs) ≡ cond (getD bs i false) (getD xs i 0) 0 ∷ keep (drop (i + 1) bs) (drop (i + 1) xs)
 keep-step bs xs i h k = rw (add-one, drop-cons bs i false, drop-cons xs i 0)
+
+-- what is left of the kept is what is kept of what is left
+pub keep-minus : (bs : List Bool) (xs ys : List ℕ) → keep bs (minus xs ys) ≡ minus (keep bs xs) ys
+keep-minus [] xs ys = refl
+keep-minus (b ∷ bs) [] ys = refl
+keep-minus (b ∷ bs) (x ∷ xs) [] = refl
+keep-minus (true ∷ bs) (x ∷ xs) (y ∷ ys) = ap (λ (zs : List ℕ). (x - y) ∷ zs) (keep-minus bs xs ys)
+keep-minus (false ∷ bs) (x ∷ xs) (y ∷ ys) =
+    let z : _≡_ {A = ℕ} 0 (0 - y) = omega arith in
+    rw (← z, keep-minus bs xs ys)
 
 -- a number above 0 that was kept stands at a marked place
 pub kept-mark : (bs : List Bool) (xs : List ℕ) (k : ℕ) → 0 < getD (keep bs xs) k 0 → getD bs k false ≡ true

@@ -1,17 +1,18 @@
 -- The pools charged one after the other, the tie behind them, and one pool alone: what the proofs of `charge_pools` and `charge_by_pools` cite.
-use Prim.Native.Nat.{ℕ, zero, suc, _+_, _-_, _*_, _≤_, _<_, zero-le}
+use Prim.Native.Nat.{ℕ, zero, suc, _+_, _-_, _≤_, _<_}
 use mathlib.Core.Path.{_≡_, refl, ap, sym, _∙_}
 use mathlib.Core.Bool.{Bool, true, false, cond}
 use mathlib.Core.List.{List, [], _∷_, map}
 use native.Mathlib.Numerals.{add-one}
 use native.Mathlib.Omega.{arith}
 use lib.Dec.{eqb}
-use lib.ListN.{length, getD, drop, replicate, length-map, List·getD-map}
+use lib.ListN.{length, getD, replicate, length-map, List·getD-map}
 use lib.Seq.{take-all}
 use Rattle.lists.specs.Limits.{memberLimit, rankLimit, amountLimit, allocationLimit}
 use Rattle.lists.specs.Sums.{total, plus, minus, keep}
-use Rattle.lists.proofs.Sums.{total-step, total-zeros, length-keep, getD-keep, keep-le, kept-mark, mark-within}
-use Rattle.split.specs.Split.{shareOf, splitOf, exceeds}
+use Rattle.lists.proofs.Places.{map-same}
+use Rattle.lists.proofs.Sums.{total-step, total-zeros, single, length-keep, getD-keep, keep-le, keep-minus, kept-mark, mark-within}
+use Rattle.split.specs.Split.{shareOf, splitOf}
 use Rattle.split.proofs.Laws.{exceeds-none}
 use Rattle.ranks.specs.Ranks.{chargesOf}
 use Rattle.figures.specs.Figures.{live, liveIn}
@@ -19,8 +20,7 @@ use Rattle.admission.specs.Admission.{misranked, poolRanks}
 use Rattle.admission.proofs.EachPool.{length-pool-ranks, pool-well-ranked}
 use Rattle.admission.proofs.Ranked.{ranks-read}
 use Rattle.rooms.specs.Rooms.{gives, rooms}
-use Rattle.rooms.specs.Parts.{Roomy}
-use Rattle.pools.specs.Pools.{portionOf, portionsOf, chargesIn, chargesUpTo, chargesTogether, unmet, stillStanding, tied, chargesByPools}
+use Rattle.pools.specs.Pools.{portionOf, chargesIn, chargesUpTo, chargesTogether, unmet, stillStanding, tied, chargesByPools}
 use Rattle.pools.specs.Parts.{Charges, Chargeable, Poolable, Divided, Divisible, PoolCharged, Tiable, Tied, undivided, shares}
 use Rattle.pools.specs.declared.Division.{Division}
 use Rattle.pools.proofs.Laws.{portion-none, portion-turn, undivided-turn, up-to-within, up-to-placed, length-up-to, pooled-within, pooled-placed, by-pools-within, one-pool}
@@ -38,16 +38,6 @@ keep-shares u f sum rest e z [] xs = refl
 keep-shares u f sum rest e z (b ∷ bs) [] = refl
 keep-shares u f sum rest e z (true ∷ bs) (x ∷ xs) = rw (e x, keep-shares u f sum rest e z bs xs)
 keep-shares u f sum rest e z (false ∷ bs) (x ∷ xs) = rw (z, keep-shares u f sum rest e z bs xs)
-
--- what stands of the marked is what is marked of what stands
-keep-minus : (bs : List Bool) (xs ys : List ℕ) → keep bs (minus xs ys) ≡ minus (keep bs xs) ys
-keep-minus [] xs ys = refl
-keep-minus (b ∷ bs) [] ys = refl
-keep-minus (b ∷ bs) (x ∷ xs) [] = refl
-keep-minus (true ∷ bs) (x ∷ xs) (y ∷ ys) = ap (λ (zs : List ℕ). (x - y) ∷ zs) (keep-minus bs xs ys)
-keep-minus (false ∷ bs) (x ∷ xs) (y ∷ ys) =
-    let z : _≡_ {A = ℕ} 0 (0 - y) = omega arith in
-    rw (← z, keep-minus bs xs ys)
 
 undivided-le : (p : ℕ) (sums : List ℕ) (w : ℕ) → undivided p sums w ≤ w
 unfolding undivided
@@ -210,23 +200,14 @@ pub divided-start : (sums status contribution ranks : List ℕ) (whole : ℕ) �
 unfolding chargesUpTo undivided
 divided-start sums status contribution ranks whole l s w =
     record {
-      left-is = sym (same contribution);
+      left-is = sym (map-same (undivided zero sums) (λ w. refl) contribution);
       rest-is = w;
       charges-are = ap (λ (n : ℕ). replicate n 0) (sym (length-keep (liveIn status) contribution (length-map status (eqb live) ∙ s ∙ sym l) ∙ l));
       total-is = sym (total-zeros memberLimit);
       over-is = refl;
     }
-  where
-    same : (xs : List ℕ) → map (undivided zero sums) xs ≡ xs
-    same [] = refl
-    same (x ∷ xs) = ap (λ (ys : List ℕ). x ∷ ys) (same xs)
 
 -- one pool alone --------------------------------------------------------------------------
-
-pub single : (xs : List ℕ) → length xs ≡ 1 → xs ≡ total xs ∷ []
-single [] e = absurd (omega arith)
-single (x ∷ []) e = let z : x + 0 ≡ x = omega arith in rw z
-single (x ∷ y ∷ xs) e = absurd (omega arith)
 
 module _ (sums status contribution ranks : List ℕ) (c : Poolable sums status contribution ranks) (one : length sums ≡ 1) where
   ranks-64 : length ranks ≡ memberLimit

@@ -1,15 +1,16 @@
 -- The laws of layer 4 by pools: what the callers of `charge_by_pools` know of the charges.
-use Prim.Native.Nat.{ℕ, zero, suc, _+_, _-_, _*_, _≤_, _<_, min}
+use Prim.Native.Nat.{ℕ, zero, suc, _+_, _-_, _*_, _≤_, _<_}
 use mathlib.Core.Path.{_≡_, refl, ap, sym, _∙_}
-use mathlib.Core.List.{List, [], _∷_, map}
+use mathlib.Core.List.{List, [], _∷_}
 use mathlib.Core.Logic.{⊎-elim}
 use native.Mathlib.Nat.{eq-zero-or-pos}
 use native.Mathlib.Numerals.{add-one}
 use native.Mathlib.Omega.{arith}
-use lib.ListN.{length, getD, take, drop, replicate, length-replicate, length-map, List·getD-map}
+use lib.ListN.{length, getD, drop, replicate, length-replicate, length-map, List·getD-map}
 use lib.Seq.{take-all}
 use Rattle.lists.specs.Limits.{memberLimit, rankLimit}
-use Rattle.lists.specs.Sums.{total, plus, minus, keep}
+use Rattle.lists.specs.Sums.{total}
+use Rattle.lists.proofs.Places.{map-same}
 use Rattle.lists.proofs.Sums.{total-step, total-zeros, getD-zeros, zeros, length-plus, getD-plus, total-plus, plus-none, none-plus, length-minus, getD-minus, total-minus}
 use Rattle.split.specs.Split.{shareOf, splitOf}
 use Rattle.split.proofs.Laws.{share-le-left, share-last, length-split, split-le, split-within, split-whole, total-within}
@@ -184,16 +185,9 @@ module _ (sums ws ranks : List ℕ) where
 
 -- one pool ----------------------------------------------------------------------------
 
-pub map-same : (f : ℕ → ℕ) → ((x : ℕ) → f x ≡ x) → (xs : List ℕ) → map f xs ≡ xs
-map-same f h [] = refl
-map-same f h (x ∷ xs) = rw (h x, map-same f h xs)
-
 -- with one pool the charges are the pool's, by rank over the whole weights, and nothing is left for a tie
 module _ (s : ℕ) (ws ranks : List ℕ) (long : length ws ≡ memberLimit) (lr : length ranks ≡ memberLimit)
     (ranked : (k : ℕ) → 0 < getD ws k 0 → (0 < getD ranks k 0) × (getD ranks k 0 ≤ rankLimit)) where
-  only : List ℕ
-  only = s ∷ []
-
   alone-whole : 0 < s → portionsOf (s ∷ []) ws 0 ≡ ws
   unfolding splitOf
   alone-whole p =

@@ -1,19 +1,19 @@
 -- The laws of the sums of the pools.
-use Prim.Native.Nat.{ℕ, zero, suc, _+_, _-_, _≤_, _<_, min}
+use Prim.Native.Nat.{ℕ, suc, _+_, _-_, _≤_, _<_, min}
 use mathlib.Core.Path.{_≡_, refl, ap, sym, _∙_}
 use mathlib.Core.List.{List, [], _∷_}
 use mathlib.Core.Logic.{⊎-elim}
 use native.Mathlib.Nat.{eq-zero-or-pos}
-use native.Mathlib.Numerals.{add-one}
 use native.Mathlib.Omega.{arith}
 use lib.Dec.{ltb}
 use lib.ListN.{length, getD, take, drop, set, length-set, drop-of-length-le}
-use lib.Seq.{length-take-le, getD-take, drop-cons, take-set-lt, getD-set-same}
+use lib.Seq.{length-take-le, getD-take, take-set-lt, getD-set-same}
 use Rattle.lists.specs.Checks.{check}
 use Rattle.lists.specs.Limits.{poolLimit}
 use Rattle.lists.specs.Sums.{total}
+use Rattle.lists.proofs.Cases.{counted-next}
 use Rattle.lists.proofs.Checks.{check-lt, check-nlt}
-use Rattle.lists.proofs.Sums.{getD-le-total}
+use Rattle.lists.proofs.Sums.{getD-le-total, total-raised}
 use Rattle.admission.specs.Admission.{lossesOf}
 use Rattle.admission.specs.declared.Pools.{Pools}
 use Rattle.admission.proofs.EachPool.{length-losses}
@@ -35,9 +35,6 @@ module _ (xs : List ℕ) (count : ℕ) (h : count ≤ length xs) (p : ℕ) where
   abbrev counted : List ℕ
   counted = take count xs
 
-  counted-step : p < count → drop p counted ≡ getD xs p 0 ∷ drop (p + 1) counted
-  counted-step l = rw (← getD-take count xs p 0 l, add-one, drop-cons counted p 0 (omega (arith, length-take-le count xs h)))
-
   -- the next loss is met as far as what is given goes
   pub after-turn : (given met : ℕ) → p < count → met ≡ min given (getD xs p 0)
       → lossesAfter given (drop p counted) ≡ (getD xs p 0 - met) ∷ lossesAfter (given - met) (drop (p + 1) counted)
@@ -45,7 +42,7 @@ module _ (xs : List ℕ) (count : ℕ) (h : count ≤ length xs) (p : ℕ) where
   after-turn given met l e =
       let a : getD xs p 0 - met ≡ getD xs p 0 - given = omega arith in
       let b : given - met ≡ given - getD xs p 0 = omega arith in
-      rw (a, b, counted-step l)
+      rw (a, b, counted-next xs count h p l)
 
   pub after-end : (given : ℕ) → count ≤ p → lossesAfter given (drop p counted) ≡ []
   unfolding lossesAfter
@@ -54,11 +51,11 @@ module _ (xs : List ℕ) (count : ℕ) (h : count ≤ length xs) (p : ℕ) where
   -- the next pool is the first with loss left, or is passed
   pub first-here : p < count → 0 < getD xs p 0 → firstLeft (drop p counted) ≡ 0
   unfolding firstLeft
-  first-here l g = rw (counted-step l) (sym (check-lt _ _ 0 (getD xs p 0) g refl))
+  first-here l g = rw (counted-next xs count h p l) (sym (check-lt _ _ 0 (getD xs p 0) g refl))
 
   pub first-past : p < count → getD xs p 0 ≤ 0 → firstLeft (drop p counted) ≡ suc (firstLeft (drop (p + 1) counted))
   unfolding firstLeft
-  first-past l g = rw (counted-step l) (sym (check-nlt _ _ 0 (getD xs p 0) g refl))
+  first-past l g = rw (counted-next xs count h p l) (sym (check-nlt _ _ 0 (getD xs p 0) g refl))
 
 -- where a pool has loss left, the first is one of them
 first-within : (lefts : List ℕ) → 0 < total lefts → firstLeft lefts < length lefts
@@ -85,12 +82,6 @@ joined-within lefts h =
     let e : firstLeft lefts ≡ check (ltb 0 (total lefts)) (firstLeft lefts) 0 = check-lt _ _ 0 (total lefts) p refl in
     omega (arith, e, first-within lefts p))
     (eq-zero-or-pos (total lefts))
-
--- a place raised raises the total
-total-raised : (xs : List ℕ) (p x : ℕ) → p < length xs → total (set xs p (getD xs p 0 + x)) ≡ total xs + x
-total-raised [] p x h = absurd (omega arith)
-total-raised (y ∷ xs) zero x h = omega arith
-total-raised (y ∷ xs) (suc p) x h = omega (arith, total-raised xs p x (omega arith))
 
 module _ (given fallen : ℕ) (losses : List ℕ) where
   pub length-sums : length (sumsOf given fallen losses) ≡ length losses

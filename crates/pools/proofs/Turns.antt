@@ -1,9 +1,8 @@
 -- The laws of a pool's turn and of the last tie, which the proofs of the parts of `charge_by_pools` cite.
-use Prim.Native.Nat.{ℕ, zero, suc, _+_, _-_, _*_, _≤_, _<_}
+use Prim.Native.Nat.{ℕ, _+_, _-_, _*_, _≤_, _<_}
 use mathlib.Core.Path.{_≡_, refl, ap, sym, _∙_}
-use mathlib.Core.Bool.{Bool, true, false, _||_}
-use mathlib.Core.List.{List, [], _∷_, _++_, append-nil, map}
-use native.Mathlib.Nat.{sub-zero}
+use mathlib.Core.Bool.{Bool, _||_}
+use mathlib.Core.List.{List, [], _∷_, _++_, append-nil}
 use native.Mathlib.Numerals.{add-one}
 use native.Mathlib.Omega.{arith}
 use lib.Dec.{eqb}
@@ -11,8 +10,9 @@ use lib.ListN.{length, getD, take, drop, length-map, drop-of-length-le, List·ge
 use lib.Seq.{drop-cons}
 use Rattle.lists.specs.Limits.{memberLimit, amountLimit, allocationLimit}
 use Rattle.lists.specs.Sums.{total, plus, minus, keep}
-use Rattle.lists.proofs.Sums.{getD-le-total, getD-plus, total-plus, none-plus, getD-minus, keep-le, length-keep, total-bound}
-use Rattle.split.specs.Split.{shareOf, splitOf, exceeds}
+use Rattle.lists.proofs.Places.{map-same}
+use Rattle.lists.proofs.Sums.{total-plus, none-plus, getD-minus, minus-none, keep-le, length-keep, total-bound}
+use Rattle.split.specs.Split.{shareOf, exceeds}
 use Rattle.split.proofs.Laws.{share-last, share-le-left, share-none, length-split, split-within, exceeds-none}
 use Rattle.ranks.specs.Ranks.{chargesOf}
 use Rattle.ranks.proofs.Laws.{length-charges, charge-within, charges-within}
@@ -23,7 +23,6 @@ use Rattle.rooms.proofs.Places.{length-rooms}
 use Rattle.rooms.proofs.Shares.{whole-shared}
 use Rattle.pools.specs.Parts.{Chargeable, Divisible, PoolCharged, Tiable, Tied, shares}
 use Rattle.pools.specs.declared.Division.{Division}
-use Rattle.pools.proofs.Laws.{map-same}
 
 -- the shares of a turn, one contribution after the other ----------------------------------
 
@@ -50,13 +49,6 @@ shares-within sum rest left h k =
 total-no-shares : (sum rest : ℕ) (left : List ℕ) → sum ≡ 0 → total (shares sum rest left) ≡ 0
 total-no-shares sum rest [] z = refl
 total-no-shares sum rest (w ∷ left) z = omega (arith, share-none w sum rest z, total-no-shares sum rest left z)
-
-minus-none : (xs ys : List ℕ) → total ys ≡ 0 → minus xs ys ≡ xs
-minus-none [] ys z = refl
-minus-none (x ∷ xs) [] z = refl
-minus-none (x ∷ xs) (y ∷ ys) z =
-    let e : y ≡ 0 = omega arith in
-    rw (e, sub-zero, minus-none xs ys (omega arith))
 
 -- the next pool ------------------------------------------------------------------------
 

@@ -1,18 +1,17 @@
 -- The laws of the marginal rank, which the proofs of the parts of `charge_by_rank` cite.
 use Prim.Native.Nat.{ℕ, zero, suc, _+_, _-_, _*_, _≤_, _<_, zero-le}
 use mathlib.Core.Path.{_≡_, refl, ap, sym, _∙_}
-use mathlib.Core.Bool.{Bool, true, false, cond}
-use mathlib.Core.List.{List, [], _∷_, _++_, map}
+use mathlib.Core.Bool.{Bool, false, cond}
+use mathlib.Core.List.{List, [], _∷_, map}
 use mathlib.Core.Logic.{⊎-elim}
 use native.Mathlib.Nat.{eq-or-lt-of-le, sub-zero}
-use native.Mathlib.Numerals.{add-one, sub-one}
+use native.Mathlib.Numerals.{sub-one}
 use native.Mathlib.Omega.{arith}
 use lib.Dec.{eqb, ltb}
-use lib.ListN.{length, getD, take, drop, set, replicate, drop-of-length-le, length-replicate, length-map}
-use lib.Seq.{drop-cons, getD-set-same, getD-set-other, drop-set-lt}
-use borrow.Author.Tests.{eq-eqb, ne-eqb, eqb-true, eqb-false, lt-ltb, le-ltb}
+use lib.ListN.{length, getD, drop, set, replicate, drop-of-length-le, length-replicate, length-map}
+use borrow.Author.Tests.{eq-eqb, ne-eqb, lt-ltb, le-ltb}
 use Rattle.lists.specs.Limits.{rankLimit, amountLimit}
-use Rattle.lists.specs.Sums.{total, plus, keep}
+use Rattle.lists.specs.Sums.{total, plus}
 use Rattle.lists.proofs.Places.{by-order, raised}
 use Rattle.lists.proofs.Sums.{zeros, all-zeros, total-zeros, getD-zeros, total-plus, plus-assoc, plus-none, none-plus, length-keep, keep-le, cond-le, keep-map-step}
 use Rattle.split.specs.Parts.{Splits}

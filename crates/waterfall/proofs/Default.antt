@@ -1,13 +1,13 @@
 -- Laws of a default: what it charges is what there is to place, no charge passes its pocket, and layers and ranks are charged in order.
-use Prim.Native.Nat.{ℕ, zero, suc, _+_, _-_, _≤_, _<_, min, zero-le}
+use Prim.Native.Nat.{ℕ, _+_, _-_, _≤_, _<_, min}
 use mathlib.Core.Path.{_≡_, refl, ap, _∙_}
-use mathlib.Core.Bool.{Bool, true, false, _||_, _&&_, false≢true}
-use mathlib.Core.List.{List, [], _∷_}
+use mathlib.Core.Bool.{false}
+use mathlib.Core.List.{List}
 use native.Mathlib.Omega.{arith}
-use lib.Dec.{eqb, ltb}
+use lib.Dec.{eqb}
 use lib.ListN.{length, getD}
 use Rattle.lists.specs.Limits.{memberLimit}
-use Rattle.lists.specs.Sums.{total, minus, keep}
+use Rattle.lists.specs.Sums.{total, minus}
 use Rattle.lists.proofs.Places.{getD-map-any}
 use Rattle.lists.proofs.Sums.{getD-minus, keep-le}
 use Rattle.split.proofs.Laws.{exceeds-none, split-within, split-whole, total-within}

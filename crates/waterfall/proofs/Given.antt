@@ -6,7 +6,7 @@ use native.Mathlib.Omega.{arith}
 use lib.Dec.{eqb}
 use lib.ListN.{length, getD, length-set, length-map}
 use Rattle.lists.specs.Limits.{memberLimit, amountLimit}
-use Rattle.lists.specs.Sums.{total, minus, keep}
+use Rattle.lists.specs.Sums.{total, minus}
 use Rattle.lists.proofs.Places.{set-all, set-both}
 use Rattle.lists.proofs.Sums.{getD-zeros, getD-plus, getD-minus, length-plus, length-minus, length-keep, unkept, getD-le-total}
 use Rattle.split.proofs.Laws.{length-split}

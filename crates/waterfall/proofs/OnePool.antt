@@ -1,7 +1,7 @@
 -- "A one-pool default answers as before.": the same answer, register and slip as the default of document 01.
 use Prim.Native.Nat.{ℕ, _+_, _≤_, _<_}
-use mathlib.Core.Path.{_≡_, refl, ap, sym, _∙_}
-use mathlib.Core.Bool.{Bool, true, false, not, _||_}
+use mathlib.Core.Path.{_≡_, refl, ap, _∙_}
+use mathlib.Core.Bool.{false, not}
 use mathlib.Core.List.{List, [], _∷_}
 use native.Mathlib.Omega.{arith}
 use borrow.Author.Tests.{ltb-false, eqb-true, eqb-false, not-false}
@@ -11,15 +11,15 @@ use lib.Seq.{take-all}
 use Rattle.lists.specs.Checks.{check, refuses}
 use Rattle.lists.specs.Limits.{memberLimit, rankLimit, sumLimit}
 use Rattle.lists.specs.Sums.{total}
-use Rattle.lists.proofs.Checks.{no-refusal, neither}
-use Rattle.lists.proofs.Sums.{kept-mark, mark-within}
+use Rattle.lists.proofs.Cases.{or-false}
+use Rattle.lists.proofs.Checks.{check-same, check-skip, no-refusal, neither}
+use Rattle.lists.proofs.Sums.{single, kept-mark, mark-within}
 use Rattle.figures.specs.Figures.{absent, inDefault, figure, others}
 use Rattle.admission.specs.Admission.{unready, misranked, admission, lossesOf, miscounted, excessiveLosses, poolsUnready, poolsMisranked, poolsAdmission}
 use Rattle.admission.specs.declared.Pools.{Pools}
 use Rattle.admission.proofs.Admitted.{Admitted, admitted}
 use Rattle.admission.proofs.Ranked.{ranks-read}
 use Rattle.pools.specs.Pools.{chargesByPools}
-use Rattle.pools.proofs.Charging.{single}
 use Rattle.pools.proofs.Laws.{one-pool}
 use Rattle.waterfall.specs.Register.{GivenBack}
 use Rattle.waterfall.specs.Default.{standingOf, charges, after3, allocationOf, settledOf, overdrawn, slipOf, defaultRefusal, defaultOf, defaultSlip}
@@ -29,20 +29,6 @@ use Rattle.waterfall.specs.declared.Register.{Register}
 use Rattle.waterfall.specs.declared.Reply.the-variants.{Allocated}
 use Rattle.waterfall.proofs.Given.{length-others, length-standing}
 use Rattle.waterfall.proofs.Pooled.{length-pool-sums, total-pool-sums}
-
--- two checks that hold alike, and whose rests are the same where they do not; a check that never holds
-check-same : {A : Type 0} (t u : Bool) (a b c : A) → t ≡ u → (u ≡ false → b ≡ c) → check t a b ≡ check u a c
-unfolding check
-check-same t true a b c e h = rw e
-check-same t false a b c e h = rw e (h refl)
-
-check-skip : {A : Type 0} (t : Bool) (a b c : A) → t ≡ false → b ≡ c → check t a b ≡ c
-unfolding check
-check-skip t a b c e h = rw e h
-
-or-none : (b : Bool) → (b || false) ≡ b
-or-none true = refl
-or-none false = refl
 
 module _ (r : Register) (g : GivenBack r) (member : ℕ) (pools : Pools) (one : pools .count ≡ 1) (ranks : List ℕ) where
   abbrev loss : ℕ
@@ -78,7 +64,7 @@ module _ (r : Register) (g : GivenBack r) (member : ℕ) (pools : Pools) (one : 
 
   thirteen : excessiveLosses (lossesOf pools) ≡ ltb sumLimit loss
   unfolding excessiveLosses
-  thirteen = ap excessiveLosses only ∙ or-none (ltb sumLimit loss)
+  thirteen = ap excessiveLosses only ∙ or-false (ltb sumLimit loss)
 
   fourteen : (slip : ℕ) → poolsUnready (pools .count) (length ranks) slip ≡ unready (length ranks) slip
   fourteen slip = ap (λ (n : ℕ). poolsUnready n (length ranks) slip) one

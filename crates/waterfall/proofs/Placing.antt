@@ -8,7 +8,7 @@ use lib.ListN.{length, getD, drop, length-set}
 use lib.Seq.{getD-set-same}
 use Rattle.lists.specs.Checks.{check}
 use Rattle.lists.specs.Limits.{memberLimit, poolLimit, amountLimit, sumLimit}
-use Rattle.lists.specs.Sums.{total, plus, minus, keep}
+use Rattle.lists.specs.Sums.{total, plus, minus}
 use Rattle.lists.proofs.Checks.{Row, check-lt, check-true, check-false}
 use Rattle.lists.proofs.Places.{set-all}
 use Rattle.lists.proofs.Sums.{unkept}

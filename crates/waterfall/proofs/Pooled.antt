@@ -1,19 +1,18 @@
--- Layer 4 by pools, on a register: what is known of its charges, and that one pool charges as document 01 says.
-use Prim.Native.Nat.{ℕ, _+_, _-_, _*_, _≤_, _<_}
-use mathlib.Core.Path.{_≡_, refl, ap, sym, _∙_}
-use mathlib.Core.List.{List, [], _∷_}
+-- Layer 4 by pools, on a register: what is known of the pools' sums and of the charges.
+use Prim.Native.Nat.{ℕ, _-_, _*_, _≤_, _<_}
+use mathlib.Core.Path.{_≡_, ap, sym, _∙_}
+use mathlib.Core.List.{List, []}
 use native.Mathlib.Omega.{arith}
-use lib.ListN.{length, getD}
-use Rattle.lists.specs.Limits.{memberLimit, poolLimit, sumLimit}
+use lib.ListN.{length}
+use Rattle.lists.specs.Limits.{memberLimit, poolLimit}
 use Rattle.lists.specs.Sums.{total}
 use Rattle.admission.specs.Admission.{lossesOf}
 use Rattle.admission.specs.declared.Pools.{Pools}
 use Rattle.admission.proofs.EachPool.{length-losses}
-use Rattle.pools.specs.Pools.{sumsOf}
 use Rattle.pools.proofs.Sums.{counted-sums, total-sums}
 use Rattle.pools.proofs.Laws.{length-by-pools, by-pools-within, by-pools-placed, by-pools-exhausted}
 use Rattle.waterfall.specs.Register.{GivenBack}
-use Rattle.waterfall.specs.Default.{standingOf, fallenCall, toPlace, onMargin, onContribution, onTranche1, after3}
+use Rattle.waterfall.specs.Default.{standingOf, fallenCall, toPlace, after3}
 use Rattle.waterfall.specs.Pools.{lossTogether, givenBefore, poolSums, pooledCharges}
 use Rattle.waterfall.specs.declared.Register.{Register}
 use Rattle.waterfall.proofs.Default.{Layer4, left1, left2, left3}

@@ -11,7 +11,6 @@ use Rattle.sheets.specs.Columns.{columnsFrom, columnsOf}
 use Rattle.sheets.specs.Members.{outside, missing, excessive, entryOf}
 use Rattle.sheets.specs.Sheet.{missized, memberRefusalFrom, memberRefusal}
 use Rattle.waterfall.specs.Opening.{tranche1Of, tranche2Of, openingRegister, openingRefusal, openedOf}
-use Rattle.figures.specs.Figures.{others}
 use Rattle.admission.specs.Admission.{misranked, excessiveLosses, poolsMisranked}
 use Rattle.admission.specs.declared.Pools.{Pools}
 use Rattle.pools.specs.Pools.{lossesAfter, firstLeft, joinedPool, sumsOf, chargesIn, chargesUpTo, chargesTogether, unmet, stillStanding, tied, chargesByPools}

@@ -49,7 +49,7 @@ annexureLosses = fourPools 1_475_000 675_000 112_500 37_500
 unfoldable pub annexureRanks : List ℕ
 annexureRanks = pool7 5 6 1 2 4 7 3 ++ pool7 2 5 4 3 7 1 6 ++ pool7 5 3 1 2 4 7 6 ++ pool7 1 7 6 3 2 4 5
 
--- the annex's member totals, 58.70, 195.11, 123.91, 132.07, 489.13, 365.22 and 360.87 crore, but for thousands lost to rounding
+-- the annex's member totals, 58.70, 195.11, 123.91, 132.07, 489.13, 365.22 and 360.87, but for thousands lost to rounding
 pub annexure-4 : (pooledOf annexure 1 annexureLosses annexureRanks slip .reply ≡ answers 0 190_000 10_000 375_000 1_725_000 0 0 0)
     × (take 8 (pooledSlip annexure 1 annexureLosses annexureRanks slip) ≡ 0 ∷ 58_695 ∷ 195_108 ∷ 123_913 ∷ 132_064 ∷ 489_130 ∷ 365_217 ∷ 360_873 ∷ [])
 unfolding annexure annexureLosses annexureRanks pool7 fourPools row amount slip answers openedOf openingRefusal memberRefusal memberRefusalFrom entryOf outside missing excessive missized le32 check openingRegister columnsOf columnsFrom judged pooledOf pooledSlip pooledRefusal pooledAllocation pooledCharges poolSums givenBefore excessiveLosses poolsMisranked misranked exceeds roomsOf fallenCall toPlace onMargin after1 onContribution after2 onTranche1 after3 after4 onTranche2 after5 onCalls calls shortfall allocationOf settledOf lossesAfter firstLeft joinedPool sumsOf chargesIn chargesUpTo chargesTogether unmet stillStanding tied chargesByPools chargesOf chargesFrom splitOf shareOf

@@ -1,6 +1,6 @@
 -- `admission::together` meets its contract. The loop's invariant: the sum so far and the losses that are left are all of them.
 use Prim.Native.Nat.{_≤_, _+_, _-_}
-use mathlib.Core.Path.{_≡_, refl}
+use mathlib.Core.Path.{_≡_}
 use native.Mathlib.Omega.{arith}
 use borrow.Author.Needs.{needs}
 use lib.ListN.{take, drop}

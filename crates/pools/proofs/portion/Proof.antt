@@ -1,7 +1,5 @@
 -- `pools::portion` meets its contract.
-use mathlib.Core.Path.{_≡_}
 use native.Mathlib.Omega.{arith}
-use borrow.Author.Needs.{needs}
 use Rattle.split.proofs.Laws.{products-fit, share-le-left}
 use Rattle.pools.proofs.portion.Statement.{statement}
 use Rattle.pools.proofs.portion.Tie as tie

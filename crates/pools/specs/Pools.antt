@@ -13,7 +13,8 @@ use Rattle.rooms.specs.Rooms.{gives}
 
 -- the sums of the pools ----------------------------------------------------------
 
--- "Layers 1 to 3 meet the fallen call first, then the pools in order.": what is left of each loss, of what they give `given` being left for the pools
+-- "Layers 1 to 3 meet the fallen call first, then the pools in order.": what is left of each loss, where `given` of
+-- what they give comes to the pools
 unfoldable pub lossesAfter : ℕ → List ℕ → List ℕ
 lossesAfter given [] = []
 lossesAfter given (loss ∷ losses) = (loss - given) ∷ lossesAfter (given - loss) losses

@@ -23,7 +23,7 @@ use Rattle.pools.specs.Pools.{chargesByPools}
 use Rattle.pools.proofs.Laws.{one-pool}
 use Rattle.waterfall.specs.Register.{GivenBack}
 use Rattle.waterfall.specs.Default.{standingOf, charges, after3, allocationOf, settledOf, overdrawn, slipOf, defaultRefusal, defaultOf, defaultSlip}
-use Rattle.waterfall.specs.Pools.{lossTogether, poolSums, pooledCharges, pooledAllocation, pooledRefusal, pooledOf, pooledSlip}
+use Rattle.waterfall.specs.Pools.{lossTogether, poolSums, pooledCharges, pooledAllocation, pooledRefusal, pooledOf, pooledSlip, AsBefore}
 use Rattle.waterfall.specs.Reply.{judged}
 use Rattle.waterfall.specs.declared.Register.{Register}
 use Rattle.waterfall.specs.declared.Reply.the-variants.{Allocated}
@@ -111,7 +111,7 @@ module _ (r : Register) (g : GivenBack r) (member : ℕ) (pools : Pools) (one : 
   unfolding defaultRefusal
   accepted-same slip e = same-charges (length slip) (admitted (r .status) member loss ranks (length slip) _ e)
 
-  pub one-pool-answers : (slip : List ℕ) → pooledOf r member pools ranks slip ≡ defaultOf r member loss ranks slip
+  one-pool-answers : (slip : List ℕ) → pooledOf r member pools ranks slip ≡ defaultOf r member loss ranks slip
   unfolding pooledOf defaultOf pooledAllocation judged
   one-pool-answers slip =
       ap (λ (n : ℕ). judged n r (Allocated (pooledAllocation r member pools ranks)) (settledOf r member (lossTogether pools) (pooledCharges r member pools ranks))) (same-refusal slip)
@@ -120,9 +120,12 @@ module _ (r : Register) (g : GivenBack r) (member : ℕ) (pools : Pools) (one : 
       ap (λ (l : ℕ). record { reply = Allocated (allocationOf r member l (pooledCharges r member pools ranks)); register = settledOf r member l (pooledCharges r member pools ranks) }) together
       ∙ ap (λ (cs : List ℕ). record { reply = Allocated (allocationOf r member loss cs); register = settledOf r member loss cs }) e)
 
-  pub one-pool-slip : (slip : List ℕ) → pooledSlip r member pools ranks slip ≡ defaultSlip r member loss ranks slip
+  one-pool-slip : (slip : List ℕ) → pooledSlip r member pools ranks slip ≡ defaultSlip r member loss ranks slip
   unfolding pooledSlip defaultSlip
   one-pool-slip slip =
       check-same (refuses (pooledRefusal r member pools ranks slip)) (refuses (defaultRefusal r member loss ranks slip)) _ _ _ (ap refuses (same-refusal slip)) (λ p.
       ap (λ (l : ℕ). slipOf r member l (pooledCharges r member pools ranks) slip) together
       ∙ ap (λ (cs : List ℕ). slipOf r member loss cs slip) (accepted-same slip (no-refusal _ p)))
+
+  pub one-pool-as-before : (slip : List ℕ) → AsBefore r member pools ranks slip
+  one-pool-as-before slip = record { answer-and-register = one-pool-answers slip; slip-as-left = one-pool-slip slip }

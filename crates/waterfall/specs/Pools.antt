@@ -1,6 +1,7 @@
 -- Document 02, request 3, "Several auction pools in one default": the default that the calls make. Layers 1 to 3, 5 and 6 are those of Default.antt, the
 -- losses of the pools being one loss together; layer 4 is charged pool by pool.
 use Prim.Native.Nat.{ℕ, _+_}
+use mathlib.Core.Path.{_≡_}
 use mathlib.Core.List.{List}
 use lib.ListN.{length}
 use Rattle.lists.specs.Checks.{check, refuses}
@@ -8,7 +9,7 @@ use Rattle.lists.specs.Sums.{total}
 use Rattle.admission.specs.Admission.{lossesOf, poolsAdmission}
 use Rattle.admission.specs.declared.Pools.{Pools}
 use Rattle.pools.specs.Pools.{sumsOf, portionsOf, chargesIn, chargesByPools}
-use Rattle.waterfall.specs.Default.{fallenCall, standingOf, onMargin, onContribution, onTranche1, allocationOf, settledOf, overdrawn, slipOf}
+use Rattle.waterfall.specs.Default.{fallenCall, standingOf, onMargin, onContribution, onTranche1, allocationOf, settledOf, overdrawn, slipOf, defaultOf, defaultSlip}
 use Rattle.waterfall.specs.Reply.{judged}
 use Rattle.waterfall.specs.declared.Allocation.{Allocation}
 use Rattle.waterfall.specs.declared.Register.{Register}
@@ -56,3 +57,9 @@ module _ (r : Register) (member : ℕ) (pools : Pools) where
 
     unfoldable pub pooledSlip : List ℕ → List ℕ
     pooledSlip slip = check (refuses (pooledRefusal slip)) slip (slipOf r member (lossTogether pools) pooledCharges slip)
+
+-- "A one-pool default answers as before.": the answer, the register and the slip are those of Default.antt. Theorem `one-pool-as-before` in
+-- proofs/OnePool.antt, of every register that was given back.
+pub record AsBefore (r : Register) (member : ℕ) (pools : Pools) (ranks slip : List ℕ) : Type 0 where
+  pub answer-and-register : pooledOf r member pools ranks slip ≡ defaultOf r member (pools .loss1) ranks slip
+  pub slip-as-left : pooledSlip r member pools ranks slip ≡ defaultSlip r member (pools .loss1) ranks slip

@@ -36,3 +36,14 @@ pub last-tie : (chargesTogether (3 ∷ 3 ∷ []) (3 ∷ 3 ∷ []) ones ≡ 2 ∷
     × (chargesByPools (3 ∷ 3 ∷ []) (3 ∷ 3 ∷ []) ones ≡ 3 ∷ 3 ∷ [])
 unfolding ones chargesByPools tied stillStanding unmet chargesTogether chargesUpTo chargesIn chargesOf chargesFrom splitOf shareOf
 last-tie = (refl, refl, refl)
+
+-- two pools; in pool 1 the first of three members is the most junior, in pool 2 all have rank 1
+unfoldable pub unlike : List ℕ
+unlike = (2 ∷ 1 ∷ 1 ∷ replicate 61 0) ++ (1 ∷ 1 ∷ 1 ∷ replicate 61 0)
+
+-- sums of 4 and 4 over contributions of 3, 3 and 3: pool 1 meets 3 and pool 2 all of its 4, so that 1, 1 and 0 still stand. The tie goes by no rank: the split of
+-- the 1 that is left gives the most junior member of pool 1 nothing of it.
+pub tie-by-no-rank : (stillStanding (4 ∷ 4 ∷ []) (3 ∷ 3 ∷ 3 ∷ []) unlike ≡ 1 ∷ 1 ∷ 0 ∷ [])
+    × (tied (4 ∷ 4 ∷ []) (3 ∷ 3 ∷ 3 ∷ []) unlike ≡ 0 ∷ 1 ∷ 0 ∷ [])
+unfolding unlike tied stillStanding unmet chargesTogether chargesUpTo chargesIn chargesOf chargesFrom splitOf shareOf
+tie-by-no-rank = (refl, refl)

@@ -194,6 +194,13 @@ pub keep-step : (bs : List Bool) (xs : List ℕ) (i : ℕ) → i < length bs →
     → keep (drop i bs) (drop i xs) ≡ cond (getD bs i false) (getD xs i 0) 0 ∷ keep (drop (i + 1) bs) (drop (i + 1) xs)
 keep-step bs xs i h k = rw (add-one, drop-cons bs i false, drop-cons xs i 0)
 
+-- what is kept twice is kept once
+pub keep-keep : (bs : List Bool) (xs : List ℕ) → keep bs (keep bs xs) ≡ keep bs xs
+keep-keep [] xs = refl
+keep-keep (b ∷ bs) [] = refl
+keep-keep (true ∷ bs) (x ∷ xs) = ap (λ (ys : List ℕ). x ∷ ys) (keep-keep bs xs)
+keep-keep (false ∷ bs) (x ∷ xs) = ap (λ (ys : List ℕ). 0 ∷ ys) (keep-keep bs xs)
+
 -- what is left of the kept is what is kept of what is left
 pub keep-minus : (bs : List Bool) (xs ys : List ℕ) → keep bs (minus xs ys) ≡ minus (keep bs xs) ys
 keep-minus [] xs ys = refl

@@ -11,7 +11,7 @@ use lib.Seq.{take-all}
 use Rattle.lists.specs.Limits.{memberLimit, rankLimit, amountLimit, allocationLimit}
 use Rattle.lists.specs.Sums.{total, plus, minus, keep}
 use Rattle.lists.proofs.Places.{map-same}
-use Rattle.lists.proofs.Sums.{total-step, total-zeros, single, length-keep, getD-keep, keep-le, keep-minus, kept-mark, mark-within}
+use Rattle.lists.proofs.Sums.{total-step, total-zeros, single, length-keep, getD-keep, keep-le, keep-keep, keep-minus, kept-mark, mark-within}
 use Rattle.split.specs.Split.{shareOf, splitOf}
 use Rattle.split.proofs.Laws.{exceeds-none}
 use Rattle.ranks.specs.Ranks.{chargesOf}
@@ -188,6 +188,40 @@ module _ (sums status contribution ranks : List ℕ) (c : Poolable sums status c
           total-is = q .total-is;
           over-is = q .over-is ∙ sym (exceeds-none charges contribution (λ k. omega (arith, ap (λ (xs : List ℕ). getD xs k 0) e, by-pools-within sums weights ranks k, keep-le marks contribution k)));
         }
+
+-- the live members' contributions alone are divided ---------------------------------------
+
+module _ (sums status contribution ranks standing : List ℕ) (c : Poolable sums status contribution ranks) (e : standing ≡ keep (liveIn status) contribution) where
+  pub standing-poolable : Poolable sums status standing ranks
+  standing-poolable =
+      rw e
+      record {
+        some = c .some;
+        few = c .few;
+        sums-fit = c .sums-fit;
+        status-length = c .status-length;
+        contribution-length = length-weights sums status contribution ranks c;
+        ranks-length = c .ranks-length;
+        contribution-fits = λ k. omega (arith, keep-le (liveIn status) contribution k, c .contribution-fits k);
+        well-ranked = c .well-ranked;
+      }
+
+  -- they are the weights, and a charge within one is within the contribution
+  pub standing-charges : (charges : List ℕ) (t : ℕ) (over : Bool) → Charges (chargesByPools sums (keep (liveIn status) standing) ranks) standing charges t over
+      → Charges (chargesByPools sums (keep (liveIn status) contribution) ranks) contribution charges t over
+  standing-charges charges t over q =
+      let same : keep (liveIn status) standing ≡ keep (liveIn status) contribution = ap (keep (liveIn status)) e ∙ keep-keep (liveIn status) contribution in
+      let is : charges ≡ chargesByPools sums (keep (liveIn status) contribution) ranks = q .charges-are ∙ ap (λ (ws : List ℕ). chargesByPools sums ws ranks) same in
+      let within : (k : ℕ) → getD charges k 0 ≤ getD (keep (liveIn status) contribution) k 0 = λ k.
+      omega (arith, ap (λ (xs : List ℕ). getD xs k 0) is, by-pools-within sums (keep (liveIn status) contribution) ranks k) in
+      record {
+        charges-are = is;
+        total-is = q .total-is;
+        over-is =
+            q .over-is
+            ∙ exceeds-none charges standing (λ k. omega (arith, within k, ap (λ (xs : List ℕ). getD xs k 0) e))
+            ∙ sym (exceeds-none charges contribution (λ k. omega (arith, within k, keep-le (liveIn status) contribution k)));
+      }
 
 -- every pool is charged, of the sums that the code counts
 pub divided-as : (count : ℕ) (taken sums status contribution ranks : List ℕ) (d : Division) → taken ≡ sums → length sums ≡ count → Divided count taken status contribution ranks d

@@ -121,6 +121,29 @@ fn charge_others(
     charge_by_rank(sum, contribution, &read, charges)
 }
 
+fn live_contribution(status: u8, contribution: u32) -> u32
+    ensures { λ r. ⌜ r ≡ cond (eqb live status) contribution 0 ⌝ }
+{
+    if status != LIVE {
+        return 0;
+    }
+    contribution
+}
+
+// "Each other live member's contribution is divided": nobody else's is, and it counts as 0.
+fn standing_of(status: &[u8; 64], contribution: &[u32; 64]) -> [u32; 64]
+    requires { ⌜ (length (now status) ≡ memberLimit) × (length (now contribution) ≡ memberLimit) ⌝ }
+    ensures { λ r. ⌜ r ≡ keep (liveIn (now (status .entry))) (now (contribution .entry)) ⌝ }
+{
+    let mut standing = [0u32; 64];
+    let mut i = 0;
+    while i < 64 {
+        standing[i] = live_contribution(status[i], contribution[i]);
+        i += 1;
+    }
+    standing
+}
+
 // A pool's turn of the split of one contribution. Where nothing is left of it, nothing is divided.
 fn portion(left: u32, sum: u64, rest: u64) -> u32
     requires { ⌜ (left ≤ amountLimit) × (sum ≤ rest) × (rest ≤ allocationLimit) ⌝ }
@@ -246,6 +269,7 @@ pub fn charge_by_pools<'a>(
         return charge_others(status, contribution, whole, ranks, charges);
     }
     let sums = sums_of(given, fallen, pools);
-    let division = charge_pools(&sums, pools.count, whole, status, *contribution, ranks);
-    tie_others(division, whole, status, contribution, charges)
+    let standing = standing_of(status, contribution);
+    let division = charge_pools(&sums, pools.count, whole, status, standing, ranks);
+    tie_others(division, whole, status, &standing, charges)
 }

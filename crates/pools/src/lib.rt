@@ -124,10 +124,10 @@ fn charge_others(
 fn live_contribution(status: u8, contribution: u32) -> u32
     ensures { λ r. ⌜ r ≡ cond (eqb live status) contribution 0 ⌝ }
 {
-    if status != LIVE {
-        return 0;
+    if status == LIVE {
+        return contribution;
     }
-    contribution
+    0
 }
 
 // "Each other live member's contribution is divided": nobody else's is, and it counts as 0.

@@ -1,5 +1,6 @@
 // Runs one case of the benchmarks so many times and prints a checksum of the answers, which must equal the Rust implementation's.
 // The cases: ranked, tied, calls, pools and page REPS, and sizing REPS STRESS SHARES.
+#![tactic(auto)]
 mod pages;
 mod sheets_read;
 mod sizings;

@@ -1,5 +1,6 @@
 // The cover C and the weak losses W of a stress sheet: document 01, "Stress sheet and sizing". One pass, with what it needs of the open block
 // and of the worst block so far.
+#![tactic(auto)]
 ghost use Rattle.std.specs.Prelude.{◌≡◌, cond, ◌||◌, not, List, [], ◌∷◌, ◌+◌, ◌≤◌, ltb, length};
 ghost use Rattle.lists.specs.Limits.{amount_limit};
 ghost use Rattle.sheets.specs.Bytes.{nonzero};

@@ -1,4 +1,5 @@
 // The arguments and the sheet files of the console programs.
+#![tactic(auto)]
 ghost use Rattle.std.specs.Prelude.{length};
 ghost use Rattle.files.specs.Files.{Fits64, Within};
 ghost use Rattle.files.specs.Parts.{StepWithin};

@@ -1,4 +1,5 @@
 // The lines of a drill, taken one by one from standard input.
+#![tactic(auto)]
 ghost use Rattle.std.specs.Prelude.{◌≡◌, ◌≤◌, length};
 
 use libc::STDIN_FILENO;

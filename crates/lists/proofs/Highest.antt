@@ -38,9 +38,10 @@ second_above x xs h =
 -- and else it may be the second itself
 pub second_below : (x : ℕ) (xs : List ℕ) → x ≤ highest xs → highest (without (max x (highest xs)) (x ∷ xs)) ≡ max (highest (without (highest xs) xs)) x
 unfolding without highest
-second_below x xs h =
-    let e : max x (highest xs) ≡ highest xs = omega arith in
-    rw e
-    (check_by (λ (zs : List ℕ). highest zs ≡ max (highest (without (highest xs) xs)) x) (eqb x (highest xs)) xs (x ∷ without (highest xs) xs)
-    (λ t. omega (arith, eqb-true x (highest xs) t, without-le (highest xs) xs))
-    (λ t. omega arith))
+second_below x xs h = at_most (max x (highest xs)) (omega arith)
+  where
+    at_most : (m : ℕ) → m ≡ highest xs → highest (without m (x ∷ xs)) ≡ max (highest (without (highest xs) xs)) x
+    at_most m e =
+        check_by (λ (zs : List ℕ). highest zs ≡ max (highest (without (highest xs) xs)) x) (eqb x m) xs (x ∷ without m xs)
+        (λ t. omega (arith, eqb-true x m t, without-le (highest xs) xs))
+        (λ t. omega (arith, ap (λ (k : ℕ). highest (without k xs)) e))

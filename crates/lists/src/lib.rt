@@ -1,6 +1,8 @@
 // The limits of document 01 and of the requests of document 02 as the code names them. The contracts name them by specs/Limits, so a number that differs
 // is refused.
 // Money is whole thousands of rupees.
+#![tactic(auto)]
+
 pub mod numbers;
 
 // "Members are numbered 1 to 64."

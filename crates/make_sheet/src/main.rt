@@ -1,6 +1,7 @@
 // Turns comma-separated lines on standard input into a sheet of 16-byte records on standard output. KIND says which sheet.
 //
 // A sheet has at most 4,096 records. Where the lines have more, 4,097 are written: such a sheet is overlong, as it would be with all of them.
+#![tactic(auto)]
 use libc::{STDERR_FILENO, STDIN_FILENO, STDOUT_FILENO};
 use rows::{Kind, Named, Row};
 

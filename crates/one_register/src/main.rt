@@ -1,4 +1,5 @@
 // "The console keeps one register through the whole drill": document 01's register of four members stands in one place, and each call takes it by `&mut`.
+#![tactic(auto)]
 ghost use Rattle.waterfall.specs.Register.{GivenBack};
 
 use admission::Pools;

@@ -1,4 +1,5 @@
 // The answers of a drill, kept one behind the other and written to standard output.
+#![tactic(auto)]
 ghost use Rattle.std.specs.Prelude.{◌≡◌, ◌+◌, ◌≤◌, length};
 ghost use Rattle.print_answers.specs.Texts.{unreadable_text, reply_text};
 ghost use Rattle.print_register.specs.Texts.{register_text};

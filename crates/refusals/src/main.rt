@@ -12,6 +12,7 @@
 //
 // A line without a label prints nothing: it makes the register that the calls below it are tried on. A call with a label hands nothing on. A refusal
 // that altered a slip or a register is told, and so is a refused opening that handed back a member or a tranche.
+#![tactic(auto)]
 ghost use Rattle.std.specs.Prelude.{◌≤◌};
 ghost use Rattle.waterfall.specs.Register.{GivenBack};
 

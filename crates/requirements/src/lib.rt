@@ -1,4 +1,5 @@
 // A quantum shared over the columns of a shares sheet: document 01, "Stress sheet and sizing", refusals 9 and 10.
+#![tactic(auto)]
 ghost use Rattle.std.specs.Prelude.{◌≡◌, cond, ◌&&◌, map, ℕ, ◌+◌, ◌≤◌, max, eqb, ltb, get_or};
 ghost use Rattle.lists.specs.Checks.{check};
 ghost use Rattle.lists.specs.Highest.{highest as highestIn};

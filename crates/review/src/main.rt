@@ -1,4 +1,5 @@
 // Says whether a review is due: whether 100C is more than 80A.
+#![tactic(auto)]
 use libc::{STDERR_FILENO, STDOUT_FILENO};
 use numbers::Number;
 

@@ -1,5 +1,6 @@
 // Opens a register and answers drill calls, one a line of standard input. The answers to the lines that came with one read are written before the
 // next read.
+#![tactic(auto)]
 ghost use Rattle.std.specs.Prelude.{◌≡◌, length};
 ghost use Rattle.words.specs.Bytes.{part};
 ghost use Rattle.waterfall.specs.Register.{GivenBack};

@@ -1,4 +1,5 @@
 // Sizes the fund from a stress sheet and a shares sheet.
+#![tactic(auto)]
 use files::Sheet;
 use libc::{STDERR_FILENO, STDOUT_FILENO};
 use numbers::Number;

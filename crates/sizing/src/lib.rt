@@ -1,4 +1,5 @@
 // Month-end fund sizing: document 01, "Stress sheet and sizing".
+#![tactic(auto)]
 mod fund;
 
 ghost use Rattle.std.specs.Prelude.{◌≡◌, ◌++◌, ◌≤◌, length, drop};

@@ -1,4 +1,6 @@
 // A sum shared over weights in rising order, each share rounded down: document 01, "The split".
+#![tactic(auto)]
+
 ghost use Rattle.std.specs.Prelude.{◌≡◌, ◌*◌, ◌≤◌};
 ghost use Rattle.split.specs.Split.{share_of, split_of, exceeds};
 ghost use Rattle.split.specs.Parts.{Splits, product_limit};

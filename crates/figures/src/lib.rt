@@ -1,6 +1,7 @@
 // Figures by member number: read, replaced, added and taken place by place, written to a lent buffer. An amount is at most 400,000,000, so a
 // register holds it in 32 bits; sums, and what hosts hand over and receive, have 64.
 #![tactic(auto)]
+
 ghost use Rattle.std.specs.Prelude.{◌≡◌, ◌||◌, ◌++◌, map, ℕ, ◌+◌, ◌-◌, ◌≤◌, ◌<◌, eqb, ltb, length, get_or, take, drop};
 ghost use Rattle.lists.specs.Limits.{member_limit, amount_limit};
 ghost use Rattle.lists.specs.Sums.{total, plus, minus};

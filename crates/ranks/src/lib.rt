@@ -3,6 +3,7 @@
 // At most one rank, the marginal one, is charged in part. So the totals by rank find it, one split shares what it gives, and no rank that is
 // charged whole or not at all costs a division.
 #![tactic(auto)]
+
 ghost use Rattle.std.specs.Prelude.{◌≡◌, cond, ℕ, ◌≤◌, ◌<◌, eqb, ltb, length, get_or};
 ghost use Rattle.lists.specs.Limits.{member_limit, rank_limit, allocation_limit};
 ghost use Rattle.lists.specs.Sums.{total, plus};

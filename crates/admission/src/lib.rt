@@ -12,7 +12,7 @@ use figures::{ABSENT, IN_DEFAULT, LIVE, defaulted, status_at};
 use lists::{MEMBER_LIMIT, POOL_LIMIT, RANK_LIMIT, SUM_LIMIT};
 
 // What a default names: how many pools, and the loss of each. Of the four losses as many are read as it counts.
-#[derive(Drop)]
+#[derive(Clone, Copy)]
 pub struct Pools {
     pub count: usize,
     pub loss1: u64,

@@ -1,5 +1,6 @@
 // The bytes of a line: a part of them, a byte among them, the words.
 #![tactic(auto)]
+
 ghost use Rattle.std.specs.Prelude.{◌≡◌, ◌+◌, ◌≤◌, min, max, length, drop};
 ghost use Rattle.words.specs.Bytes.{run, part as Bytes·part, same_bytes};
 ghost use Rattle.words.specs.Words.{is_space, in_word};

@@ -1,5 +1,6 @@
 // Bytes written into a lent buffer.
 #![tactic(auto)]
+
 ghost use Rattle.std.specs.Prelude.{◌≡◌, ◌+◌, ◌-◌, ◌≤◌, length};
 ghost use Rattle.buffers.specs.Buffer.{written, spaces, le, grown_of, kept_of};
 

@@ -1,80 +1,78 @@
 // Runs one case of the benchmarks so many times and prints a checksum of the answers, which must equal the Rust implementation's.
 // The cases: ranked, tied, calls, pools and page REPS, and sizing REPS STRESS SHARES.
 #![tactic(auto)]
+
 mod pages;
 mod sheets_read;
 mod sizings;
 
-use libc::{STDERR_FILENO, STDOUT_FILENO};
 use numbers::Number;
+use std::io::{Eprint, Print};
+use std::rt::{Env, Files};
 
-fn usage() {
-    io::write_all(
-        STDERR_FILENO,
-        b"usage: bench_engine ranked|tied|calls|pools|page REPS\n       bench_engine sizing REPS STRESS SHARES\n",
+fn usage(rt: &impl Eprint) {
+    let _ = eprintln!(rt;
+        "usage: bench_engine ranked|tied|calls|pools|page REPS\n       bench_engine sizing REPS STRESS SHARES"
     );
 }
 
-fn say(sum: u64) {
-    io::print_decimal(STDOUT_FILENO, sum);
-    io::write_all(STDOUT_FILENO, b"\n");
+fn say(rt: &impl Print, sum: u64) {
+    let _ = println!(rt; "{sum}");
 }
 
-fn run_sizing(turns: u64) {
-    if os::arg_count() != 5 {
-        usage();
+fn run_sizing(rt: &(impl Env + Files + Print + Eprint), turns: u64) {
+    if files::arg_count(rt) != 5 {
+        usage(rt);
         return;
     }
-    say(sizings::run(turns));
+    say(rt, sizings::run(rt, turns));
 }
 
-fn run_plain(case: &[u8], turns: u64) {
-    if os::arg_count() != 3 {
-        usage();
+fn run_plain(rt: &(impl Env + Print + Eprint), case: &[u8], turns: u64) {
+    if files::arg_count(rt) != 3 {
+        usage(rt);
         return;
     }
     if words::same(case, b"ranked") {
-        say(bench_defaults::ranked(turns));
+        say(rt, bench_defaults::ranked(turns));
     } else if words::same(case, b"tied") {
-        say(bench_defaults::tied(turns));
+        say(rt, bench_defaults::tied(turns));
     } else if words::same(case, b"calls") {
-        say(bench_defaults::calls(turns));
+        say(rt, bench_defaults::calls(turns));
     } else if words::same(case, b"pools") {
-        say(bench_defaults::pools(turns));
+        say(rt, bench_defaults::pools(turns));
     } else if words::same(case, b"page") {
-        say(pages::run(turns));
+        say(rt, pages::run(turns));
     } else {
-        usage();
+        usage(rt);
     }
 }
 
-fn run(case: &[u8], turns: u64) {
+fn run(rt: &(impl Env + Files + Print + Eprint), case: &[u8], turns: u64) {
     if words::same(case, b"sizing") {
-        run_sizing(turns);
+        run_sizing(rt, turns);
     } else {
-        run_plain(case, turns);
+        run_plain(rt, case, turns);
     }
 }
 
 // The number of repetitions, the second argument.
-fn repetitions() -> Number {
+fn repetitions(rt: &impl Env) -> Number {
     let mut word = [0u8; 32];
-    let n = os::arg(2, &mut word);
-    if os::errno() != 0 {
-        return Number::NotANumber;
+    match rt.arg(2, &mut word) {
+        Ok(n) => numbers::read_number(&word[..n]),
+        Err(_) => Number::NotANumber,
     }
-    numbers::read_number(&word[..n])
 }
 
-fn main() {
+fn main(rt: HostRuntime) {
     let mut case = [0u8; 16];
-    let n = os::arg(1, &mut case);
-    if os::errno() != 0 {
-        usage();
+    let Ok(n) = rt.arg(1, &mut case) else {
+        usage(&rt);
         return;
-    }
-    match repetitions() {
-        Number::Value(turns) => run(&case[..n], turns),
-        Number::NotANumber => usage(),
+    };
+    match repetitions(&rt) {
+        Number::Value(turns) => run(&rt, &case[..n], turns),
+        Number::NotANumber => usage(&rt),
     }
 }

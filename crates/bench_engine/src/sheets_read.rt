@@ -1,19 +1,12 @@
 // A sheet read from the file that an argument names.
+use files::{Sheet, read_sheet};
+use std::io::Eprint;
+use std::rt::{Env, Files};
 
 // How many bytes it has; none where there is no such file.
-pub fn read(argument: usize, sheet: &mut [u8]) -> usize {
-    let mut path = io::buffer();
-    let n = os::arg(argument, &mut path);
-    if os::errno() != 0 {
-        os::fail(b"argument");
-        return 0;
+pub fn read(rt: &(impl Env + Files + Eprint), argument: usize, sheet: &mut [u8]) -> usize {
+    match read_sheet(rt, argument, sheet) {
+        Sheet::Read(n) => n,
+        Sheet::Failed => 0,
     }
-    let file = os::open_read(&path[..n]);
-    if file < 0 {
-        os::fail(&path[..n]);
-        return 0;
-    }
-    let size = io::read_full(file, sheet);
-    libc::close(file);
-    size
 }

@@ -2,6 +2,8 @@
 use crate::sheets_read::read;
 use bench_defaults::fold::fold;
 use sizing::{Sized, size};
+use std::io::Eprint;
+use std::rt::{Env, Files};
 
 const PREVAILING: u64 = 70_000_000;
 
@@ -52,11 +54,11 @@ fn repeat_accepted(turns: u64, stress: &[u8], shares: &[u8]) -> u64 {
     0
 }
 
-pub fn run(turns: u64) -> u64 {
+pub fn run(rt: &(impl Env + Files + Eprint), turns: u64) -> u64 {
     let mut stress = [0u8; 65552];
     let mut shares = [0u8; 1040];
-    let n = read(3, &mut stress);
-    let m = read(4, &mut shares);
+    let n = read(rt, 3, &mut stress);
+    let m = read(rt, 4, &mut shares);
     repeat_accepted(
         turns,
         words::part(&stress, 0, n),

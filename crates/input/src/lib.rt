@@ -1,9 +1,10 @@
 // The lines of a drill, taken one by one from standard input.
 #![tactic(auto)]
+
 ghost use Rattle.std.specs.Prelude.{◌≡◌, ◌≤◌, length};
 
-use libc::STDIN_FILENO;
 use lines::{Line, read_line};
+use std::io::{Eprint, Input, Read};
 
 // How far the input is read: the chunk's bytes from `from` to `have` are still to be taken, `len` bytes of the line are there, and `line` is its number.
 #[derive(Drop)]
@@ -102,16 +103,29 @@ fn end_input(line: &mut [u8], ranks: &mut [u8], p: Progress) -> Taken
     Taken { says, progress }
 }
 
+// One read into the chunk: how many bytes there are, none where the input has ended or cannot be read.
+fn read_some(rt: &(impl Input + Eprint), chunk: &mut [u8]) -> usize {
+    match rt.reader().read(chunk) {
+        Ok(n) => n,
+        Err(why) => {
+            let _ = eprintln!(rt; "standard input: {why}");
+            0
+        }
+    }
+}
+
 // Reads what is there.
-fn read_chunk(chunk: &mut [u8], line: &mut [u8], ranks: &mut [u8], p: Progress) -> Taken
+fn read_chunk(
+    rt: &(impl Input + Eprint),
+    chunk: &mut [u8],
+    line: &mut [u8],
+    ranks: &mut [u8],
+    p: Progress,
+) -> Taken
     requires { length ranks.old ≡ 256 }
     ensures { result.progress.from ≤ result.progress.have }
 {
-    let got = libc::read(STDIN_FILENO, chunk);
-    if got < 0 {
-        os::fail(b"standard input");
-    }
-    let have = io::count(got, chunk);
+    let have = read_some(rt, chunk);
     if have == 0 {
         return end_input(line, ranks, p);
     }
@@ -128,7 +142,13 @@ fn read_chunk(chunk: &mut [u8], line: &mut [u8], ranks: &mut [u8], p: Progress) 
 }
 
 // A line of the chunk, or another chunk. No more is taken of a chunk than it has.
-pub fn take(chunk: &mut [u8], line: &mut [u8], ranks: &mut [u8], p: Progress) -> Taken
+pub fn take(
+    rt: &(impl Input + Eprint),
+    chunk: &mut [u8],
+    line: &mut [u8],
+    ranks: &mut [u8],
+    p: Progress,
+) -> Taken
     requires { length ranks.old ≡ 256 }
     ensures { result.progress.from ≤ result.progress.have }
 {
@@ -137,5 +157,5 @@ pub fn take(chunk: &mut [u8], line: &mut [u8], ranks: &mut [u8], p: Progress) ->
     if from < have {
         return take_piece(chunk, line, ranks, p);
     }
-    read_chunk(chunk, line, ranks, p)
+    read_chunk(rt, chunk, line, ranks, p)
 }

@@ -2,8 +2,10 @@
 //
 // A sheet has at most 4,096 records. Where the lines have more, 4,097 are written: such a sheet is overlong, as it would be with all of them.
 #![tactic(auto)]
-use libc::{STDERR_FILENO, STDIN_FILENO, STDOUT_FILENO};
+
 use rows::{Kind, Named, Row};
+use std::io::{Eprint, Input, Print, Read};
+use std::rt::Env;
 
 // How far the input is read: bytes of the line so far, bytes of the sheet, and the line's number.
 #[derive(Drop)]
@@ -138,22 +140,26 @@ fn end_input(kind: Kind, line: &[u8], sheet: &mut [u8], p: Progress) -> Progress
     q
 }
 
-fn read_some(kind: Kind, line: &mut [u8], sheet: &mut [u8], p: Progress) -> Progress {
+fn read_some(
+    rt: &(impl Input + Eprint),
+    kind: Kind,
+    line: &mut [u8],
+    sheet: &mut [u8],
+    p: Progress,
+) -> Progress {
     let mut buf = [0u8; 4096];
-    let got = libc::read(STDIN_FILENO, &mut buf);
-    if got < 0 {
-        os::fail(b"standard input");
-        return stopped(p, Status::Failed);
+    match rt.reader().read(&mut buf) {
+        Ok(0) => end_input(kind, line, sheet, p),
+        Ok(n) => take_chunk(kind, &buf[..n], line, sheet, p),
+        Err(why) => {
+            let _ = eprintln!(rt; "standard input: {why}");
+            stopped(p, Status::Failed)
+        }
     }
-    if got == 0 {
-        return end_input(kind, line, sheet, p);
-    }
-    let n = io::count(got, &buf);
-    take_chunk(kind, &buf[..n], line, sheet, p)
 }
 
 // The turns are counted down from a number that no run uses up.
-fn read_all(kind: Kind, line: &mut [u8], sheet: &mut [u8]) -> Progress {
+fn read_all(rt: &(impl Input + Eprint), kind: Kind, line: &mut [u8], sheet: &mut [u8]) -> Progress {
     let mut p = Progress {
         len: 0,
         used: 0,
@@ -166,60 +172,57 @@ fn read_all(kind: Kind, line: &mut [u8], sheet: &mut [u8]) -> Progress {
         if !is_reading(status) {
             return p;
         }
-        let q = read_some(kind, line, sheet, p);
+        let q = read_some(rt, kind, line, sheet, p);
         p = q;
         turns -= 1;
     }
     p
 }
 
-fn say_line(line: u64) {
-    io::write_all(STDERR_FILENO, b"unreadable line ");
-    io::print_decimal(STDERR_FILENO, line);
-    io::write_all(STDERR_FILENO, b"\n");
+fn say_line(rt: &impl Eprint, line: u64) {
+    let _ = eprintln!(rt; "unreadable line {line}");
 }
 
-fn write_sheet(sheet: &[u8]) {
-    if !io::write_all(STDOUT_FILENO, sheet) {
-        os::fail(b"standard output");
+fn write_sheet(rt: &(impl Print + Eprint), sheet: &[u8]) {
+    if let Err(why) = rt.write_all(sheet) {
+        let _ = eprintln!(rt; "standard output: {why}");
     }
 }
 
-fn finish(p: Progress, sheet: &[u8]) {
+fn finish(rt: &(impl Print + Eprint), p: Progress, sheet: &[u8]) {
     let status = p.status;
     let used = p.used;
     match status {
         Status::Reading => {}
         Status::Failed => {}
-        Status::BadLine => say_line(p.line),
-        Status::Ended => write_sheet(words::part(sheet, 0, used)),
+        Status::BadLine => say_line(rt, p.line),
+        Status::Ended => write_sheet(rt, words::part(sheet, 0, used)),
     }
 }
 
-fn make(kind: Kind) {
+fn make(rt: &(impl Input + Print + Eprint), kind: Kind) {
     let mut line = [0u8; 4096];
     let mut sheet = [0u8; 65552];
-    let p = read_all(kind, &mut line, &mut sheet);
-    finish(p, &sheet);
+    let p = read_all(rt, kind, &mut line, &mut sheet);
+    finish(rt, p, &sheet);
 }
 
-fn usage() {
-    io::write_all(STDERR_FILENO, b"usage: make_sheet register|shares|stress\n");
+fn usage(rt: &impl Eprint) {
+    let _ = eprintln!(rt; "usage: make_sheet register|shares|stress");
 }
 
-fn main() {
-    if os::arg_count() != 2 {
-        usage();
+fn main(rt: HostRuntime) {
+    if files::arg_count(&rt) != 2 {
+        usage(&rt);
         return;
     }
     let mut word = [0u8; 16];
-    let n = os::arg(1, &mut word);
-    if os::errno() != 0 {
-        usage();
+    let Ok(n) = rt.arg(1, &mut word) else {
+        usage(&rt);
         return;
-    }
+    };
     match rows::kind_named(&word[..n]) {
-        Named::Known(kind) => make(kind),
-        Named::Unknown => usage(),
+        Named::Known(kind) => make(&rt, kind),
+        Named::Unknown => usage(&rt),
     }
 }

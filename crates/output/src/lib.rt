@@ -1,5 +1,6 @@
 // The answers of a drill, kept one behind the other and written to standard output.
 #![tactic(auto)]
+
 ghost use Rattle.std.specs.Prelude.{◌≡◌, ◌+◌, ◌≤◌, length};
 ghost use Rattle.print_answers.specs.Texts.{unreadable_text, reply_text};
 ghost use Rattle.print_register.specs.Texts.{register_text};
@@ -7,8 +8,8 @@ ghost use Rattle.print_page.specs.Texts.{page_text};
 ghost use Rattle.print_page.specs.Parts.{Printable};
 
 use input::Progress;
-use libc::STDOUT_FILENO;
 use print_page::Latest;
+use std::io::{Eprint, Print};
 use waterfall::{Register, Reply};
 
 // Where no more of the answers are kept than this, there is room for any other.
@@ -22,16 +23,18 @@ pub struct Kept {
 }
 
 // Writes the first n bytes.
-fn say(out: &[u8], n: usize) -> bool {
-    if io::write_all(STDOUT_FILENO, words::part(out, 0, n)) {
-        return true;
+fn say(rt: &(impl Print + Eprint), out: &[u8], n: usize) -> bool {
+    match rt.write_all(words::part(out, 0, n)) {
+        Ok(()) => true,
+        Err(why) => {
+            let _ = eprintln!(rt; "standard output: {why}");
+            false
+        }
     }
-    os::fail(b"standard output");
-    false
 }
 
 // Writes the answers where there may be no room for another, and before the input is read on.
-pub fn make_room(out: &[u8], used: usize, p: Progress) -> Kept
+pub fn make_room(rt: &(impl Print + Eprint), out: &[u8], used: usize, p: Progress) -> Kept
     ensures { result.used ≤ 49152 }
 {
     if used <= KEPT {
@@ -41,7 +44,7 @@ pub fn make_room(out: &[u8], used: usize, p: Progress) -> Kept
     }
     Kept {
         used: 0,
-        going: say(out, used) & p.going,
+        going: say(rt, out, used) & p.going,
     }
 }
 

@@ -13,11 +13,12 @@
 // A line without a label prints nothing: it makes the register that the calls below it are tried on. A call with a label hands nothing on. A refusal
 // that altered a slip or a register is told, and so is a refused opening that handed back a member or a tranche.
 #![tactic(auto)]
-ghost use Rattle.std.specs.Prelude.{◌≤◌};
+
+ghost use Rattle.std.specs.Prelude.{◌≤◌, length};
 ghost use Rattle.waterfall.specs.Register.{GivenBack};
 
 use cases::{Declared, Given, before, bytes, declaration, figures, from};
-use libc::{STDIN_FILENO, STDOUT_FILENO};
+use std::io::{Input, Print, Read};
 use waterfall::close::close;
 use waterfall::declaration::declare;
 use waterfall::opening::open;
@@ -27,17 +28,13 @@ use waterfall::view::{MemberView, member, tranches};
 use waterfall::{Outcome, Register, Reply};
 
 // Says what was answered, and where a refusal altered what it was lent.
-fn say(label: &[u8], number: u64, position: u64, kept: bool) {
+fn say(rt: &impl Print, label: &[u8], number: u64, position: u64, kept: bool) {
     if 0 < label.len() {
-        io::write_all(STDOUT_FILENO, label);
-        io::write_all(STDOUT_FILENO, b": ");
-        io::print_decimal(STDOUT_FILENO, number);
-        io::write_all(STDOUT_FILENO, b" ");
-        io::print_decimal(STDOUT_FILENO, position);
-        io::write_all(STDOUT_FILENO, b"\n");
+        let _ = rt.write_all(label);
+        let _ = println!(rt; ": {number} {position}");
     }
     if (0 < number) & !kept {
-        io::write_all(STDOUT_FILENO, b"a refusal altered a slip or a register\n");
+        let _ = println!(rt; "a refusal altered a slip or a register");
     }
 }
 
@@ -77,7 +74,7 @@ fn same(a: Register, b: Register) -> bool {
     (x.tranche1 == y.tranche1) & (x.tranche2 == y.tranche2)
 }
 
-fn size(label: &[u8], n: Given, sheets: &[u8])
+fn size(rt: &impl Print, label: &[u8], n: Given, sheets: &[u8])
     requires { n.third ≤ 130 }
 {
     let first = bytes(before(sheets, b'|'), 0);
@@ -97,6 +94,7 @@ fn size(label: &[u8], n: Given, sheets: &[u8])
     );
     let number = sized.refusal.number as u64;
     say(
+        rt,
         label,
         number,
         sized.refusal.position as u64,
@@ -105,7 +103,7 @@ fn size(label: &[u8], n: Given, sheets: &[u8])
 }
 
 // A refused opening hands back what the opening of nothing does.
-fn opening(label: &[u8], own: u64, records: &[u8]) -> Register
+fn opening(rt: &impl Print, label: &[u8], own: u64, records: &[u8]) -> Register
     ensures { GivenBack result }
 {
     let read = bytes(records, 0);
@@ -115,7 +113,7 @@ fn opening(label: &[u8], own: u64, records: &[u8]) -> Register
     let nothing = open(b"", 0);
     let kept = same(opened.register, nothing.register);
     let number = opened.refusal.number as u64;
-    say(label, number, opened.refusal.position as u64, kept);
+    say(rt, label, number, opened.refusal.position as u64, kept);
     opened.register
 }
 
@@ -128,20 +126,26 @@ fn number_of(reply: Reply) -> u64 {
 }
 
 // Says what a call on the register answered. The register that is kept is the new one where there is no label.
-fn told(label: &[u8], register: Register, outcome: Outcome, kept: bool) -> Register
+fn told(rt: &impl Print, label: &[u8], register: Register, outcome: Outcome, kept: bool) -> Register
     requires { GivenBack register × GivenBack outcome.register }
     ensures { GivenBack result }
 {
     let reply = outcome.reply;
     let unaltered = same(register, outcome.register);
-    say(label, number_of(reply), 0, kept & unaltered);
+    say(rt, label, number_of(reply), 0, kept & unaltered);
     if label.len() == 0 {
         return outcome.register;
     }
     register
 }
 
-fn default(label: &[u8], n: Declared, digits: &[u8], register: Register) -> Register
+fn default(
+    rt: &impl Print,
+    label: &[u8],
+    n: Declared,
+    digits: &[u8],
+    register: Register,
+) -> Register
     requires { GivenBack register × (n.ranks ≤ 320) × (n.slip ≤ 130) }
     ensures { GivenBack result }
 {
@@ -157,7 +161,7 @@ fn default(label: &[u8], n: Declared, digits: &[u8], register: Register) -> Regi
         &ranks[0..count],
         &mut slip[0..lent],
     );
-    told(label, register, outcome, untouched(&slip))
+    told(rt, label, register, outcome, untouched(&slip))
 }
 
 // A call that is lent no slip, by its first letter.
@@ -173,7 +177,7 @@ fn call(kind: u8, register: Register, member: u64, amount: u64) -> Outcome
 }
 
 // A line, by the first letter of what is called.
-fn run(line: &[u8], register: Register) -> Register
+fn run(rt: &impl Print, line: &[u8], register: Register) -> Register
     requires { GivenBack register }
     ensures { GivenBack result }
 {
@@ -187,12 +191,13 @@ fn run(line: &[u8], register: Register) -> Register
     let kind = words[2];
     match kind {
         b's' => {
-            size(label, n, sheets);
+            size(rt, label, n, sheets);
             register
         }
-        b'o' => opening(label, n.first, sheets),
-        b'd' => default(label, declaration(words), sheets, register),
+        b'o' => opening(rt, label, n.first, sheets),
+        b'd' => default(rt, label, declaration(words), sheets, register),
         _ => told(
+            rt,
             label,
             register,
             call(kind, register, n.first, n.second),
@@ -201,20 +206,36 @@ fn run(line: &[u8], register: Register) -> Register
     }
 }
 
-fn run_all(cases: &[u8]) {
+fn run_all(rt: &impl Print, cases: &[u8]) {
     let opened = open(b"", 0);
     let mut register = opened.register;
     let mut at = 0;
     while at < cases.len() {
         let line = before(&cases[at..], b'\n');
-        let next = run(line, register);
+        let next = run(rt, line, register);
         register = next;
         at += line.len() + 1;
     }
 }
 
-fn main() {
-    let mut cases = io::large_buffer();
-    let n = io::read_full(STDIN_FILENO, &mut cases);
-    run_all(&cases[0..n]);
+// Reads the cases to their end, or until the room is used up.
+fn read_cases(rt: &impl Input, cases: &mut [u8]) -> usize
+    ensures { result ≤ length cases.new }
+{
+    let mut input = rt.reader();
+    let mut done = 0;
+    while done < cases.len() {
+        match input.read(&mut cases[done..]) {
+            Ok(0) => return done,
+            Ok(n) => done += n,
+            Err(_) => return done,
+        }
+    }
+    done
+}
+
+fn main(rt: HostRuntime) {
+    let mut cases = [0u8; 65536];
+    let n = read_cases(&rt, &mut cases);
+    run_all(&rt, &cases[0..n]);
 }

@@ -1,33 +1,35 @@
 // Says whether a review is due: whether 100C is more than 80A.
 #![tactic(auto)]
-use libc::{STDERR_FILENO, STDOUT_FILENO};
+
 use numbers::Number;
+use std::io;
+use std::io::{Eprint, Print};
 
-fn usage() {
-    io::write_all(STDERR_FILENO, b"usage: review C A\n");
+fn usage(rt: &impl Eprint) {
+    let _ = eprintln!(rt; "usage: review C A");
 }
 
-fn answer(due: bool) -> bool {
+fn answer(rt: &impl Print, due: bool) -> io::Result<()> {
     if due {
-        return io::write_all(STDOUT_FILENO, b"review\n");
+        return println!(rt; "review");
     }
-    io::write_all(STDOUT_FILENO, b"no review\n")
+    println!(rt; "no review")
 }
 
-fn main() {
-    if os::arg_count() != 3 {
-        usage();
+fn main(rt: HostRuntime) {
+    if files::arg_count(&rt) != 3 {
+        usage(&rt);
         return;
     }
-    let Number::Value(cover) = files::number_at(1) else {
-        usage();
+    let Number::Value(cover) = files::number_at(&rt, 1) else {
+        usage(&rt);
         return;
     };
-    let Number::Value(target) = files::number_at(2) else {
-        usage();
+    let Number::Value(target) = files::number_at(&rt, 2) else {
+        usage(&rt);
         return;
     };
-    if !answer(sizing::review_due(cover, target)) {
-        os::fail(b"standard output");
+    if let Err(why) = answer(&rt, sizing::review_due(cover, target)) {
+        let _ = eprintln!(&rt; "standard output: {why}");
     }
 }

@@ -1,6 +1,7 @@
 // Opens a register and answers drill calls, one a line of standard input. The answers to the lines that came with one read are written before the
 // next read.
 #![tactic(auto)]
+
 ghost use Rattle.std.specs.Prelude.{◌≡◌, length};
 ghost use Rattle.words.specs.Bytes.{part};
 ghost use Rattle.waterfall.specs.Register.{GivenBack};
@@ -10,11 +11,11 @@ ghost use Rattle.lines.specs.Defaults.{handed_of};
 use drill::DrillCall;
 use files::Sheet;
 use input::Progress;
-use libc::STDERR_FILENO;
 use lines::Line;
 use numbers::Number;
 use output::{make_room, put_page, put_register, put_reply, put_unreadable};
 use print_page::{Latest, latest_of};
+use std::io::{Eprint, Input, Print};
 use waterfall::{Outcome, Register};
 
 // A call, with those of the typed ranks that go with it.
@@ -33,6 +34,7 @@ fn answer(register: Register, call: DrillCall, ranks: &[u8], slip: &mut [u64]) -
 
 // Answers the lines, behind the answers that are kept. The turns are counted down from a number that no run uses up.
 fn drill(
+    rt: &(impl Input + Print + Eprint),
     first: Register,
     opening: usize,
     chunk: &mut [u8],
@@ -56,13 +58,13 @@ fn drill(
     let mut used = opening;
     let mut turns = u64::MAX;
     while turns > 0 {
-        let kept = make_room(out, used, p);
+        let kept = make_room(rt, out, used, p);
         if !kept.going {
             return;
         }
         let at = kept.used;
         let number = p.line;
-        let taken = input::take(chunk, line, ranks, p);
+        let taken = input::take(rt, chunk, line, ranks, p);
         let says = taken.says;
         let progress = taken.progress;
         p = progress;
@@ -84,7 +86,7 @@ fn drill(
     }
 }
 
-fn run(sheet: &[u8], own: u64) {
+fn run(rt: &(impl Input + Print + Eprint), sheet: &[u8], own: u64) {
     let opened = waterfall::opening::open(sheet, own);
     let refusal = opened.refusal;
     let register = opened.register;
@@ -95,25 +97,25 @@ fn run(sheet: &[u8], own: u64) {
     let mut out = [0u8; 65536];
     let n = print_refusal::put_opening(&mut out, refusal);
     drill(
-        register, n, &mut chunk, &mut line, &mut ranks, &mut slip, &mut out,
+        rt, register, n, &mut chunk, &mut line, &mut ranks, &mut slip, &mut out,
     );
 }
 
-fn usage() {
-    io::write_all(STDERR_FILENO, b"usage: run_drill REGISTER G\n");
+fn usage(rt: &impl Eprint) {
+    let _ = eprintln!(rt; "usage: run_drill REGISTER G");
 }
 
-fn main() {
-    if os::arg_count() != 3 {
-        usage();
+fn main(rt: HostRuntime) {
+    if files::arg_count(&rt) != 3 {
+        usage(&rt);
         return;
     }
-    let Number::Value(own) = files::number_at(2) else {
-        usage();
+    let Number::Value(own) = files::number_at(&rt, 2) else {
+        usage(&rt);
         return;
     };
     let mut sheet = [0u8; 1040];
-    if let Sheet::Read(n) = files::read_sheet(1, &mut sheet) {
-        run(words::part(&sheet, 0, n), own);
+    if let Sheet::Read(n) = files::read_sheet(&rt, 1, &mut sheet) {
+        run(&rt, words::part(&sheet, 0, n), own);
     }
 }

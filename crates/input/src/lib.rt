@@ -7,7 +7,7 @@ use lines::{Line, read_line};
 use std::io::{Eprint, Input, Read};
 
 // How far the input is read: the chunk's bytes from `from` to `have` are still to be taken, `len` bytes of the line are there, and `line` is its number.
-#[derive(Drop)]
+#[derive(Clone, Copy)]
 pub struct Progress {
     pub from: usize,
     pub have: usize,

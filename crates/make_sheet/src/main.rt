@@ -16,7 +16,7 @@ struct Progress {
     status: Status,
 }
 
-#[derive(Drop)]
+#[derive(Clone, Copy)]
 enum Status {
     Reading,
     Ended,

@@ -1,5 +1,6 @@
 // Decimal numbers, read and printed, with a text before them.
 #![tactic(auto)]
+
 ghost use Rattle.std.specs.Prelude.{◌≡◌, ◌++◌, ◌+◌, ◌≤◌, length};
 ghost use Rattle.buffers.specs.Buffer.{written};
 ghost use Rattle.numbers.specs.Numbers.{decimal_of, read_of, labelled};

@@ -58,3 +58,6 @@ excess v s h = sym (check-false _ _ _ (rw (le-ltb (value_from v s) (2 ^ 64) (ome
 -- a digit that makes too large a value
 pub full : (s : List ℕ) (v i : ℕ) → i < length s → 48 ≤ get_or s i 0 → get_or s i 0 ≤ 57 → 2 ^ 64 ≤ v * 10 + (get_or s i 0 - 48) → read_from v (drop i s) ≡ NotANumber
 full s v i h p q k = digit s v i h p q ∙ excess _ (drop (i + 1) s) k
+
+-- what `read_number` cites at each of its ways out
+pub ruleset reading = (none, whole, done, below, above, full)

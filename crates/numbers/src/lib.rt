@@ -26,6 +26,7 @@ pub fn as_number(x: usize) -> u64
 }
 
 // The word as a number. It stops at the first byte that is no digit, and where the value does not fit any more.
+#[tactic(auto, using(crate::proofs::Reading::reading))]
 pub fn read_number(word: &[u8]) -> Number
     ensures { result ≡ read_of word.now }
 {

@@ -1,5 +1,6 @@
 // A line of a sheet: its content, its cells, and what a cell says.
 #![tactic(auto)]
+
 ghost use Rattle.std.specs.Prelude.{◌≡◌, [], ◌+◌, ◌≤◌, ◌<◌, length, get_or, take, drop};
 ghost use Rattle.words.specs.Parts.{find_of};
 ghost use Rattle.cells.specs.Cells.{end_of, content_of, trim_back, trimmed, field_of, cells_of};

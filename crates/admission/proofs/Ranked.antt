@@ -12,7 +12,6 @@ use lib.Seq.{drop-cons}
 use Rattle.lists.specs.Limits.{rank_limit}
 use Rattle.lists.specs.Sums.{keep}
 use Rattle.lists.proofs.Checks.{neither, and_right}
-use Rattle.lists.proofs.Places.{get_d_map}
 use Rattle.figures.specs.Figures.{live, live_in}
 use Rattle.figures.proofs.Figures.{live_at}
 use Rattle.admission.specs.Admission.{misranked}

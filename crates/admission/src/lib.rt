@@ -1,6 +1,7 @@
 // Refusals 11 to 18 of the drill calls, and 21 and 22 of document 02, request 3, each its test, on the figures that they read: document 01, "When
 // the console says no".
 #![tactic(auto)]
+
 ghost use Rattle.std.specs.Prelude.{◌≡◌, false, ◌||◌, ◌&&◌, ◌*◌, ◌≤◌, eqb, ltb, length, take};
 ghost use Rattle.lists.specs.Checks.{check};
 ghost use Rattle.lists.specs.Limits.{member_limit, rank_limit, pool_limit, sum_limit};

@@ -1,6 +1,7 @@
 // What a layer gives, and a sum shared over what the live members may still give: layer 6 of document 01, and the last tie of layer 4 of document
 // 02, request 3. It knows nothing of registers. `status` is that of the members once the defaulter is in default, so that the live ones are the others.
 #![tactic(auto)]
+
 ghost use Rattle.std.specs.Prelude.{◌≡◌, cond, ◌-◌, ◌≤◌, eqb};
 ghost use Rattle.lists.specs.Limits.{allocation_limit};
 ghost use Rattle.lists.specs.Sums.{total};

@@ -1,2 +1,0 @@
--- The laws that the proofs cite.
-pub mod Laws

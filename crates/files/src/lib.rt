@@ -30,7 +30,7 @@ enum Step {
 }
 
 // Writes a line to standard error: what failed, a colon and the reason.
-pub fn fail(rt: &impl Eprint, what: &[u8], why: io::Error) {
+fn fail(rt: &impl Eprint, what: &[u8], why: io::Error) {
     for part in what.utf8_chunks() {
         let _ = rt.eprint(part.valid());
         if !part.invalid().is_empty() {

@@ -33,6 +33,7 @@ fn answer(register: Register, call: DrillCall, ranks: &[u8], slip: &mut [u64]) -
 }
 
 // Answers the lines, behind the answers that are kept. The turns are counted down from a number that no run uses up.
+#[tactic(auto, using(print_page::proofs::Printing::latest_printable))]
 fn drill(
     rt: &(impl Input + Print + Eprint),
     first: Register,

@@ -2,12 +2,10 @@
 use Prim.Native.Nat.{ℕ, suc, ◌+◌, ◌-◌, ◌*◌, ◌%◌, ◌≤◌, ◌<◌}
 use mathlib.Core.Path.{◌≡◌, refl, ap, sym, ◌∙◌}
 use mathlib.Core.Bool.{false}
-use mathlib.Core.List.{List, [], ◌∷◌}
+use mathlib.Core.List.{List}
 use native.Mathlib.Omega.{arith}
 use borrow.Author.Tests.{ltb-false, leb-false, eqb-false}
 use lib.ListN.{length, length-drop}
-use denote.Enum.Declared.{tag_of}
-use types.Run.{OneOf, miss}
 use Rattle.lists.specs.Checks.{check, refuses}
 use Rattle.lists.specs.Limits.{member_limit, amount_limit}
 use Rattle.lists.proofs.Checks.{check_past, check-lt, check_nlt, neither}
@@ -17,7 +15,6 @@ use Rattle.sheets.specs.Sheet.{refusal, no_refusal, missized, record_count, memb
 use Rattle.sheets.specs.declared.Entry.{Entry}
 use Rattle.sheets.specs.declared.Entry.TheVariants.{Outside, Missing, Excessive, NotRising, Figures}
 use Rattle.sheets.specs.declared.Refusal.{Refusal}
-use Rattle.sheets.specs.contracts.Entry as Entry'
 
 -- a record of a register or a shares sheet -------------------------------------
 
@@ -80,12 +77,15 @@ entry-figures floor last s m a b c e =
     }
 
 -- a record that is not in order has a number, said as the last arm of a `match` with an arm for `Figures` knows it
-pub member-refuses : (e : Entry) → OneOf (0 ∷ 1 ∷ 2 ∷ 3 ∷ []) (tag_of Entry'.the_type e) → 0 < number_of e
+abbrev pub NotFigures : Entry → Type 0
+NotFigures e = (m a b c : ℕ) → e ≡ Figures m a b c → ⊥
+
+pub member-refuses : (e : Entry) → NotFigures e → 0 < number_of e
 member-refuses Outside k = omega arith
 member-refuses Missing k = omega arith
 member-refuses Excessive k = omega arith
 member-refuses NotRising k = omega arith
-member-refuses (Figures m a b c) k = absurd (miss (0 ∷ 1 ∷ 2 ∷ 3 ∷ []) 4 tt k)
+member-refuses (Figures m a b c) k = absurd (k m a b c refl)
 
 -- the size of a sheet -----------------------------------------------------------
 
@@ -145,7 +145,7 @@ module _ (floor : ℕ) (sheet : List ℕ) (count i last : ℕ) (more : i < count
       ∙ ap (λ (x : Entry). refusal (number_of x) (i + 1)) q
 
   -- said of the number that a caller was given
-  pub member-refused_as : (e : Entry) (n : ℕ) → entry_of floor last (record_at sheet i) ≡ e → OneOf (0 ∷ 1 ∷ 2 ∷ 3 ∷ []) (tag_of Entry'.the_type e) → n ≡ number_of e
+  pub member-refused_as : (e : Entry) (n : ℕ) → entry_of floor last (record_at sheet i) ≡ e → NotFigures e → n ≡ number_of e
       → (0 < n) × (refusal n (i + 1) ≡ member_refusal_from floor (count - i) sheet i last)
   member-refused_as e n q k h =
       let p = member-refuses e k in

@@ -1,5 +1,6 @@
 // 16-byte records; registers and shares sheets read and refused: document 01, "The opening register", refusals 1 and 4 to 7.
 #![tactic(auto)]
+
 pub mod bytes;
 pub mod columns;
 pub mod members;

@@ -3,7 +3,7 @@
 pub mod losses;
 
 // What stands before a record of a stress sheet: the record before it, and the weak flags of that record's block so far.
-#[derive(Drop)]
+#[derive(Clone, Copy)]
 pub struct Before {
     pub day: u64,
     pub scenario: u64,

@@ -2,13 +2,11 @@
 use Prim.Native.Nat.{ℕ, suc, ◌+◌, ◌-◌, ◌≤◌, ◌<◌}
 use mathlib.Core.Path.{◌≡◌, refl, ap, sym, ◌∙◌}
 use mathlib.Core.Bool.{true, false, not}
-use mathlib.Core.List.{List, [], ◌∷◌}
+use mathlib.Core.List.{List}
 use mathlib.Core.Logic.{◌⊎◌, inl, inr, ⊎_elim}
 use native.Mathlib.Omega.{arith}
 use borrow.Author.Tests.{ltb-true, ltb-false, le-ltb, eqb-true, not-false}
 use lib.Dec.{eqb, ltb}
-use denote.Enum.Declared.{tag_of}
-use types.Run.{OneOf, miss}
 use Rattle.lists.specs.Checks.{check, refuses}
 use Rattle.lists.specs.Limits.{member_limit, amount_limit, day_limit, scenario_limit, weak_limit}
 use Rattle.lists.proofs.Checks.{check_past, check-true, check-lt, check_nlt, neither, either, both}
@@ -20,7 +18,6 @@ use Rattle.stress.specs.declared.Before.{Before}
 use Rattle.stress.specs.declared.Stress.{Stress}
 use Rattle.stress.specs.declared.Stress.TheVariants.{Outside, Missing, Excessive, NotRising, SixthWeak, Loss}
 use Rattle.stress.proofs.Tests.{block-outside}
-use Rattle.stress.specs.contracts.Stress as Stress'
 
 -- a record ---------------------------------------------------------------------
 
@@ -143,13 +140,17 @@ pub refused-outside : (before : Before) (s : List ℕ) → block_beyond s ≡ tr
 unfolding stress_of
 refused-outside before s e = sym (check-true _ _ _ (block-outside s e) refl)
 
-pub stress-refuses : (e : Stress) → OneOf (0 ∷ 1 ∷ 2 ∷ 3 ∷ 4 ∷ []) (tag_of Stress'.the_type e) → 0 < stress_number e
+-- a record that is not in order has a number, said as the last arm of a `match` with an arm for `Loss` knows it
+abbrev pub NotLoss : Stress → Type 0
+NotLoss e = (loss weak : ℕ) (next : Before) → e ≡ Loss loss weak next → ⊥
+
+pub stress-refuses : (e : Stress) → NotLoss e → 0 < stress_number e
 stress-refuses Outside k = omega arith
 stress-refuses Missing k = omega arith
 stress-refuses Excessive k = omega arith
 stress-refuses NotRising k = omega arith
 stress-refuses SixthWeak k = omega arith
-stress-refuses (Loss loss weak next) k = absurd (miss (0 ∷ 1 ∷ 2 ∷ 3 ∷ 4 ∷ []) 5 tt k)
+stress-refuses (Loss loss weak next) k = absurd (k loss weak next refl)
 
 -- a sheet read record by record --------------------------------------------------
 
@@ -176,7 +177,7 @@ module _ (sheet : List ℕ) (count i : ℕ) (before : Before) (more : i < count)
       ∙ sym (check-lt _ _ 0 (stress_number stress_found) (rw q h) refl)
       ∙ ap (λ (x : Stress). refusal (stress_number x) (i + 1)) q
 
-  pub stress-refused_as : (e : Stress) (n : ℕ) → stress_of before (record_at sheet i) ≡ e → OneOf (0 ∷ 1 ∷ 2 ∷ 3 ∷ 4 ∷ []) (tag_of Stress'.the_type e) → n ≡ stress_number e
+  pub stress-refused_as : (e : Stress) (n : ℕ) → stress_of before (record_at sheet i) ≡ e → NotLoss e → n ≡ stress_number e
       → (0 < n) × (refusal n (i + 1) ≡ stress_refusal_from (count - i) sheet i before)
   stress-refused_as e n q k h =
       let p = stress-refuses e k in

@@ -1,5 +1,5 @@
 -- The tests that the code makes on numbers of several bytes are those that document 01 names byte by byte.
-use Prim.Native.Nat.{ℕ, ◌+◌, ◌-◌, ◌*◌}
+use Prim.Native.Nat.{ℕ, ◌+◌, ◌-◌, ◌*◌, ◌≤◌, ◌<◌}
 use mathlib.Core.Path.{◌≡◌, refl, ap, sym, ◌∙◌}
 use mathlib.Core.Bool.{Bool, true, false, ◌||◌, ◌&&◌, not, and_assoc, or-true, not-not}
 use mathlib.Core.List.{List}
@@ -8,9 +8,10 @@ use native.Mathlib.Nat.{eq-zero-or-pos}
 use native.Mathlib.Omega.{arith}
 use borrow.Author.Tests.{lt-ltb, le-ltb, le-leb, lt-leb, ne_eqb, eqb-true}
 use lib.Dec.{eqb, leb, ltb}
+use Rattle.std.proofs.lemmas.Bool.{not-true}
 use Rattle.lists.specs.Checks.{check}
 use Rattle.lists.specs.Limits.{missing_amount, member_limit, amount_limit, day_limit, scenario_limit, weak_limit}
-use Rattle.lists.proofs.Checks.{check-true, check-false, check_no, check-not_no, neither, both}
+use Rattle.lists.proofs.Checks.{check-true, check-false, check-lt, check_nlt, check_no, neither, both}
 use Rattle.lists.proofs.Tests.{positive-sum, positive_multiple, zero_test, not-or, not_both}
 use Rattle.sheets.specs.Bytes.{byte, le16, le32, absent_amount, beyond, nonzero}
 use Rattle.stress.specs.Stress.{day_at, scenario_at, stressed_at, weak_at, loss_at, same_block, flags_before, passed, stress_outside, stress_rises, sixth_weak, stress_of}
@@ -91,26 +92,30 @@ module _ (s : List ℕ) (placed filled : Bool) (p : placed ≡ not (block_beyond
   pub sound_tried : (placed && filled) ≡ not (stress_faulty s)
   sound_tried = tried_as (block_beyond s) refl
 
--- what the answer of `sound` says of them
-pub faulty_as : {t : Bool} (s : List ℕ) (sound : Bool) → sound ≡ not (stress_faulty s) → not sound ≡ t → stress_faulty s ≡ t
-faulty_as s sound e h = sym (not-not (stress_faulty s)) ∙ ap not (sym e) ∙ h
-
 -- a record that none of them refuses: the rest of the row of checks
-pub past_faults : {x : Stress} (before : Before) (s : List ℕ) → stress_faulty s ≡ false
-    → x ≡ check (not (stress_rises before s)) NotRising (check (sixth_weak before s) SixthWeak (Loss (loss_at s) (weak_at s) (passed before s)))
-    → x ≡ stress_of before s
-unfolding stress_of stress_faulty
-past_faults before s e q =
-    let f = neither _ _ e in
-    let o = neither _ _ f.0 in
-    check-false _ _ _ o.0 (check-false _ _ _ o.1 (check-false _ _ _ f.1 q))
+module _ (before : Before) (s : List ℕ) (e : not (stress_faulty s) ≡ true) where
+  past_faults : {x : Stress}
+      → x ≡ check (not (stress_rises before s)) NotRising (check (sixth_weak before s) SixthWeak (Loss (loss_at s) (weak_at s) (passed before s)))
+      → stress_of before s ≡ x
+  unfolding stress_of stress_faulty
+  past_faults q =
+      let f = neither _ _ (not-true _ e) in
+      let o = neither _ _ f.0 in
+      sym (check-false _ _ _ o.0 (check-false _ _ _ o.1 (check-false _ _ _ f.1 q)))
 
--- and of one that rises too: 8, or the record as it is
-pub past_rising : {x : Stress} (before : Before) (s : List ℕ) (rises : Bool) (flags : ℕ) → stress_faulty s ≡ false
-    → rises ≡ stress_rises before s → not rises ≡ false → flags ≡ flags_before before s + weak_at s
-    → x ≡ check (ltb weak_limit flags) SixthWeak (Loss (loss_at s) (weak_at s) (passed before s))
-    → x ≡ stress_of before s
-past_rising before s rises flags e r h f q = past_faults before s e (check-not_no _ _ _ rises r h (rw f at q))
+  -- 7
+  pub falls : stress_rises before s ≡ false → stress_of before s ≡ NotRising
+  falls h = past_faults (check-true _ _ _ (ap not h) refl)
+
+  -- of one that rises too: 8, or the record as it is
+  pub sixth : stress_rises before s ≡ true → weak_limit < flags_before before s + weak_at s → stress_of before s ≡ SixthWeak
+  sixth h w = past_faults (check-false _ _ _ (ap not h) (check-lt _ _ _ _ w refl))
+
+  pub counts : stress_rises before s ≡ true → flags_before before s + weak_at s ≤ weak_limit
+      → stress_of before s ≡ Loss (loss_at s) (weak_at s) (passed before s)
+  counts h w = past_faults (check-false _ _ _ (ap not h) (check_nlt _ _ _ _ w refl))
+
+pub ruleset judged = (falls, sixth, counts)
 
 -- a record that 6 alone is left to refuse
 pub only-excessive : (before : Before) (s : List ℕ) (o m : Bool) → stress_faulty s ≡ true → o ≡ stress_outside s → o ≡ false

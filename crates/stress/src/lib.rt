@@ -1,5 +1,6 @@
 // Records of a stress sheet, read and refused: document 01, "Stress sheet and sizing", refusals 4 to 8.
 #![tactic(auto)]
+
 pub mod losses;
 
 // What stands before a record of a stress sheet: the record before it, and the weak flags of that record's block so far.

@@ -149,6 +149,7 @@ fn in_order(flags: u64, s: &[u8]) -> Stress
 }
 
 // The record at the start of `s`, after what stands before it.
+#[tactic(auto, using(crate::proofs::Tests::judged))]
 pub fn stress(before: Before, s: &[u8]) -> Stress
     requires { (16 ≤ length s.now) × (before.flags ≤ weak_limit) × Known before s.now }
     ensures { result ≡ stress_of before s.now }

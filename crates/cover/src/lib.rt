@@ -16,7 +16,7 @@ use stress::losses::{one_block, placed, stress, stress_number};
 use stress::{Before, Stress};
 
 // The two highest losses of a block, and its flagged losses added.
-#[derive(Drop)]
+#[derive(Clone, Copy)]
 pub struct Block {
     top: u64,
     second: u64,

@@ -79,14 +79,14 @@ pass_begins sheet block e =
 
 -- its day and scenario are tried before the pass begins
 module _ (sheet : List ℕ) (begins : Bool) (is : begins ≡ (ltb (length sheet) 16 || not (block_beyond sheet))) where
-  pub first_known : not begins ≡ false → 0 < record_count sheet → block_beyond sheet ≡ false
+  pub first_known : begins ≡ true → 0 < record_count sheet → block_beyond sheet ≡ false
   first_known h more =
       let long = le-ltb (length sheet) 16 (omega arith) in
-      not-true (block_beyond sheet) (sym (rw long at is) ∙ not-false begins h)
+      not-true (block_beyond sheet) (sym (rw long at is) ∙ h)
 
-  pub first-refused : not begins ≡ true → (0 < stress_number Outside) × (refusal (stress_number Outside) 1 ≡ stress_refusal sheet)
+  pub first-refused : begins ≡ false → (0 < stress_number Outside) × (refusal (stress_number Outside) 1 ≡ stress_refusal sheet)
   first-refused h =
-      let n = neither (ltb (length sheet) 16) (not (block_beyond sheet)) (sym is ∙ not-true begins h) in
+      let n = neither (ltb (length sheet) 16) (not (block_beyond sheet)) (sym is ∙ h) in
       let more : 0 < record_count sheet = omega (arith, ltb-false (length sheet) 16 n.0) in
       let here = stress-refused_here sheet (record_count sheet) 0 before_all more Outside (refused-outside before_all sheet (not-false (block_beyond sheet) n.1)) (omega arith) in
       (omega arith, sym here ∙ stress_begins sheet)

@@ -1,6 +1,7 @@
 // The cover C and the weak losses W of a stress sheet: document 01, "Stress sheet and sizing". One pass, with what it needs of the open block
 // and of the worst block so far.
 #![tactic(auto)]
+
 ghost use Rattle.std.specs.Prelude.{◌≡◌, cond, ◌||◌, not, List, [], ◌∷◌, ◌+◌, ◌≤◌, ltb, length};
 ghost use Rattle.lists.specs.Limits.{amount_limit};
 ghost use Rattle.sheets.specs.Bytes.{nonzero};
@@ -77,6 +78,7 @@ fn joined(block: Block, loss: u64, weak: u64) -> Block
 }
 
 // The worse of two blocks, the earlier one of equals.
+#[tactic(auto, unfolding(lists::specs::Checks::check))]
 fn worse(worst: Worst, block: Block) -> Worst
     requires { Slight block }
     ensures { result ≡ worse_of worst block }

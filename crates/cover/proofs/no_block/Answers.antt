@@ -3,12 +3,8 @@ use Rattle.lists.specs.Highest.{highest, without}
 use Rattle.cover.specs.Cover.{member_losses, flagged_sum}
 use Rattle.cover.specs.Parts.{block_of}
 use borrow.Author.Rules.{rules}
-use Rattle.cover.proofs.no_block.Statement.{statement}
-use Rattle.cover.proofs.no_block.Tie as tie
+use Rattle.cover.proofs.no_block.Goals as goal
 
-returns : tie.Need-returns
+pub returns : goal.returns
 unfolding block_of member_losses highest without flagged_sum
 returns c = search rules
-
-pub no-block-spec : {M : Type 1} → statement M
-no-block-spec = tie.close (tie.spec returns)

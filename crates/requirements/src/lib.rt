@@ -15,7 +15,7 @@ use lists::{AMOUNT_LIMIT, CONTRIBUTION_FLOOR};
 use sheets::columns::Columns;
 
 // What the columns add to.
-#[derive(Drop)]
+#[derive(Clone, Copy)]
 pub struct Totals {
     volume: u64,
     margin: u64,

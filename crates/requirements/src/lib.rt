@@ -1,5 +1,6 @@
 // A quantum shared over the columns of a shares sheet: document 01, "Stress sheet and sizing", refusals 9 and 10.
 #![tactic(auto)]
+
 ghost use Rattle.std.specs.Prelude.{◌≡◌, cond, ◌&&◌, map, ℕ, ◌+◌, ◌≤◌, max, eqb, ltb, get_or};
 ghost use Rattle.lists.specs.Checks.{check};
 ghost use Rattle.lists.specs.Highest.{highest as highestIn};
@@ -139,6 +140,7 @@ fn highest(xs: [u64; 64]) -> u64
 }
 
 // 9, then 10.
+#[tactic(auto, unfolding(lists::specs::Checks::check))]
 fn refused(unshared: bool, highest: u64) -> u8
     ensures { result ≡ check unshared 9 (check (ltb amount_limit highest) 10 0) }
 {

@@ -1,6 +1,7 @@
 // Layer 4 by pools: document 02, request 3, "Several auction pools in one default". It knows nothing of registers.
 // `status` is that of the members once the defaulter is in default, so that the live ones are the others.
 #![tactic(auto)]
+
 ghost use Rattle.std.specs.Prelude.{◌≡◌, cond, ℕ, ◌≤◌, ◌<◌, eqb, length, get_or, take};
 ghost use Rattle.lists.specs.Limits.{member_limit, pool_limit, amount_limit, allocation_limit};
 ghost use Rattle.lists.specs.Sums.{total, keep};

@@ -1,6 +1,7 @@
 // What a default takes, layer by layer, from lists of figures: document 01, "Declaring a default". It knows nothing of registers.
 // `status` is that of the members once the defaulter is in default, so that the live ones are the others.
 #![tactic(auto)]
+
 ghost use Rattle.std.specs.Prelude.{◌≡◌, ◌++◌, ◌+◌, ◌≤◌, length, drop};
 ghost use Rattle.lists.specs.Limits.{member_limit, allocation_limit};
 ghost use Rattle.lists.specs.Sums.{total};

@@ -1,5 +1,6 @@
 // An amount in Indian digits, put into a lent buffer from its last digit on.
 #![tactic(auto)]
+
 ghost use Rattle.std.specs.Prelude.{◌≡◌, ◌+◌, ◌≤◌, ◌<◌, length};
 ghost use Rattle.buffers.specs.Buffer.{written};
 ghost use Rattle.indian_digits.specs.IndianDigits.{comma_before, indian_of};

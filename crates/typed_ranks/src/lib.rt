@@ -1,5 +1,6 @@
 // Ranks as they are typed: `M:R`, or `M:` where the rank is missing.
 #![tactic(auto)]
+
 ghost use Rattle.std.specs.Prelude.{◌≡◌, true, ◌≤◌, length, drop};
 ghost use Rattle.words.specs.Words.{words_of};
 ghost use Rattle.typed_ranks.specs.TypedRanks.{ranked_of, rank_of, no_ranks, is_good, marked, given, all_good, ranks_in};

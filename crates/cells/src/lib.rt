@@ -8,7 +8,7 @@ ghost use Rattle.cells.specs.Cells.{end_of, content_of, trim_back, trimmed, fiel
 use numbers::{Number, read_number};
 use words::{find_byte, part, skip_spaces};
 
-#[derive(Drop)]
+#[derive(Clone, Copy)]
 pub enum Field {
     Value(u64),
     Bad,

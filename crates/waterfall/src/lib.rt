@@ -10,7 +10,7 @@ pub mod view;
 use sheets::Refusal;
 
 // The register. Its fields are private: hosts can make none. A member's figures stand at its number less 1.
-#[derive(Drop)]
+#[derive(Clone, Copy)]
 pub struct Register {
     // figures::ABSENT, LIVE or IN_DEFAULT
     status: [u8; 64],
@@ -27,14 +27,14 @@ pub struct Register {
 }
 
 // What an opening hands back.
-#[derive(Drop)]
+#[derive(Clone, Copy)]
 pub struct Opened {
     pub refusal: Refusal,
     pub register: Register,
 }
 
 // What an accepted default answers: the fallen (lapsed) call, the six layers and the shortfall.
-#[derive(Drop)]
+#[derive(Clone, Copy)]
 pub struct Allocation {
     pub fallen: u64,
     pub margin: u64,
@@ -47,7 +47,7 @@ pub struct Allocation {
 }
 
 // What a drill call answers.
-#[derive(Drop)]
+#[derive(Clone, Copy)]
 pub enum Reply {
     Refused(u8),
     Accepted,
@@ -55,7 +55,7 @@ pub enum Reply {
 }
 
 // What a drill call hands back.
-#[derive(Drop)]
+#[derive(Clone, Copy)]
 pub struct Outcome {
     pub reply: Reply,
     pub register: Register,

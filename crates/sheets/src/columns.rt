@@ -7,7 +7,7 @@ use crate::members::{entry, number_of};
 use crate::{Entry, Refusal};
 
 // A member sheet by member number, member 1 first; 0 where the sheet has no such member. An amount is at most 400,000,000, and is held in 32 bits.
-#[derive(Drop)]
+#[derive(Clone, Copy)]
 pub struct Columns {
     pub present: [bool; 64],
     pub first: [u32; 64],
@@ -15,7 +15,7 @@ pub struct Columns {
     pub third: [u32; 64],
 }
 
-#[derive(Drop)]
+#[derive(Clone, Copy)]
 pub struct Reading {
     pub refusal: Refusal,
     pub columns: Columns,

@@ -10,14 +10,14 @@ ghost use Rattle.lists.specs.Limits.{stress_limit};
 ghost use Rattle.sheets.specs.Sheet.{missized};
 
 // A refusal: document 01's number, and the record's position counted from 1 (0 where no record is meant). Number 0 refuses nothing.
-#[derive(Drop)]
+#[derive(Clone, Copy)]
 pub struct Refusal {
     pub number: u8,
     pub position: usize,
 }
 
 // What a record of a register or a shares sheet is found to be.
-#[derive(Drop)]
+#[derive(Clone, Copy)]
 pub enum Entry {
     Outside,
     Missing,

@@ -16,7 +16,7 @@ use waterfall::{Outcome, Register};
 
 // "A drill call is one of four, each with its own figures." Of a default these are its member and its pools' count and losses; the ranks, 64 bytes a pool
 // in one slice, and the slip stand beside it.
-#[derive(Drop)]
+#[derive(Clone, Copy)]
 pub enum DrillCall {
     Default { member: u64, pools: Pools },
     Payment { member: u64, amount: u64 },

@@ -18,7 +18,7 @@ use pools::charge_by_pools;
 use rooms::{layer, share_rooms};
 
 // The fallen call, what the six layers give, what is left after them, and whether a share passes what it is drawn from.
-#[derive(Drop)]
+#[derive(Clone, Copy)]
 pub struct Placed {
     pub fallen: u64,
     pub margin: u64,

@@ -17,7 +17,7 @@ use numbers::{Number, read_number};
 use typed_ranks::{clear, read_ranks};
 use words::{next_word, part, same};
 
-#[derive(Drop)]
+#[derive(Clone, Copy)]
 pub enum Line {
     Blank,
     Unreadable,
@@ -27,14 +27,14 @@ pub enum Line {
 }
 
 // A call with two numbers.
-#[derive(Drop)]
+#[derive(Clone, Copy)]
 enum Pair {
     Payment,
     Replenishment,
 }
 
 // A word as a number, and the place behind it. A word that is not there is no number.
-#[derive(Drop)]
+#[derive(Clone, Copy)]
 struct Typed {
     number: Number,
     end: usize,
@@ -53,7 +53,7 @@ fn number_at(line: &[u8], from: usize) -> Typed
 }
 
 // Two words as numbers, and the place behind them.
-#[derive(Drop)]
+#[derive(Clone, Copy)]
 struct Two {
     member: Number,
     amount: Number,
@@ -141,7 +141,7 @@ fn added(pools: Pools, loss: u64) -> Pools
 }
 
 // A pool as it is typed: whether it can be used, whether a further one follows, its loss, and the place behind it.
-#[derive(Drop)]
+#[derive(Clone, Copy)]
 struct Pool {
     good: bool,
     more: bool,

@@ -10,7 +10,7 @@ use page::print;
 use waterfall::{Allocation, Reply};
 
 // What the latest accepted default answered.
-#[derive(Drop)]
+#[derive(Clone, Copy)]
 pub enum Latest {
     NoDefault,
     Default(Allocation),

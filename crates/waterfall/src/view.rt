@@ -6,7 +6,7 @@ use crate::Register;
 use figures::{figure_of, status_at};
 
 // A member's figures, all 0 for a number that is not in the register. The status is figures::ABSENT, LIVE or IN_DEFAULT.
-#[derive(Drop)]
+#[derive(Clone, Copy)]
 pub struct MemberView {
     pub status: u8,
     pub margin: u64,
@@ -19,7 +19,7 @@ pub struct MemberView {
 }
 
 // The tranches of the own contribution.
-#[derive(Drop)]
+#[derive(Clone, Copy)]
 pub struct TranchesView {
     pub tranche1: u64,
     pub tranche2: u64,

@@ -1,5 +1,6 @@
 // A line of a sheet as a record of 16 bytes.
 #![tactic(auto)]
+
 ghost use Rattle.std.specs.Prelude.{◌≡◌, ◌+◌, ◌≤◌, length};
 ghost use Rattle.buffers.specs.Buffer.{written};
 ghost use Rattle.cells.specs.Cells.{cells_of};

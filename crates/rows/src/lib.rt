@@ -12,7 +12,7 @@ use cells::{Field, commas, content, read_cell, trim};
 use lists::MISSING_AMOUNT;
 use words::same;
 
-#[derive(Drop)]
+#[derive(Clone, Copy)]
 pub enum Kind {
     Register,
     Shares,

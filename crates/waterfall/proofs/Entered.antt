@@ -1,7 +1,7 @@
 -- An opening gives back a register that satisfies `GivenBack`, for every sheet and every G.
 use Prim.Native.Nat.{ℕ, zero, suc, ◌+◌, ◌-◌, ◌≤◌, ◌<◌}
 use mathlib.Core.Path.{◌≡◌, refl, ap, sym, subst, ◌∙◌}
-use mathlib.Core.Bool.{Bool, true, false, cond}
+use mathlib.Core.Bool.{Bool, true, false}
 use mathlib.Core.List.{List, [], ◌∷◌, map}
 use native.Mathlib.Omega.{arith}
 use borrow.Author.Tests.{ltb-false}
@@ -18,7 +18,7 @@ use Rattle.sheets.specs.Sheet.{refusal, no_refusal, missized, record_count, memb
 use Rattle.sheets.specs.declared.Refusal.{Refusal}
 use Rattle.sheets.specs.declared.columns.Columns.{Columns}
 use Rattle.sheets.proofs.Accepted.{record_in-order, rest-accepted, none-refused}
-use Rattle.figures.specs.Figures.{live, in_default, none, status_of}
+use Rattle.figures.specs.Figures.{live, none, status_of}
 use Rattle.waterfall.specs.Register.{GivenBack, empty_register}
 use Rattle.waterfall.specs.Opening.{entered_of, opening_register, opening_refusal, opened_of}
 use Rattle.waterfall.specs.declared.Opened.{Opened}

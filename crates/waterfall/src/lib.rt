@@ -1,5 +1,6 @@
 // The register and the calls of a drill by value: document 01, "The opening register" and "Declaring a default".
 #![tactic(auto)]
+
 pub mod close;
 pub mod declaration;
 pub mod opening;

@@ -148,3 +148,6 @@ module _ (out₀ : List ℕ) (start amount : ℕ) where
       filling_done out₁ r w =
           let b : r ≡ start = omega (arith, f.ends, ap length whole, w.0) in
           (b, w.1 ∙ rw b (ap (written out start) (sym whole) ∙ f.fills))
+
+-- what `put_digit` cites: the room that a digit has, and how it is put
+pub ruleset one_digit = (with_comma, alone, room_for_two, room_for_one, one_put, two_put)

@@ -14,6 +14,7 @@ fn comma_before(following: usize) -> bool
 }
 
 // A digit that ends at the place `end`, with a comma behind it where one stands. Answers the place where it begins.
+#[tactic(auto, using(crate::proofs::Commas::one_digit))]
 fn put_digit(out: &mut [u8], end: usize, digit: u8, following: usize) -> usize
     requires { (length (digit_of digit following) ≤ end) × (end ≤ length out.old) × (digit < 10) }
     ensures { (result + length (digit_of digit following) ≡ end) × (out.new ≡ written out.old result (digit_of digit following)) }

@@ -2,8 +2,7 @@
 use Prim.Native.Nat.{ℕ, suc, ◌+◌, ◌-◌, ◌≤◌, ◌<◌, min}
 use mathlib.Core.Path.{◌≡◌, refl, sym, ap, ◌∙◌}
 use mathlib.Core.List.{List, [], ◌∷◌}
-use mathlib.Core.Bool.{true, false}
-use borrow.Author.Tests.{eq-eqb, ne_eqb}
+use mathlib.Core.Bool.{false}
 use lib.Dec.{eqb}
 use native.Mathlib.Nat.{sub-zero}
 use native.Mathlib.Omega.{arith}
@@ -53,17 +52,7 @@ pub part-rest : (s : List ℕ) (i : ℕ) → part s i (length s) ≡ drop i s
 unfolding part
 part-rest s i = take_all (length s - i) (drop i s) (simp length-drop (omega arith))
 
--- two lists compared byte by byte
-module _ (a b : List ℕ) (i : ℕ) (h : i < length a) (k : i < length b) where
-  pub same_on : get_or a i 0 ≡ get_or b i 0 → same_bytes (drop i a) (drop i b) ≡ same_bytes (drop (i + 1) a) (drop (i + 1) b)
-  same_on e = rw (drop_next a i h, drop_next b i k, eq-eqb (get_or a i 0) (get_or b i 0) e)
-
-  pub same_stop : (get_or a i 0 ≡ get_or b i 0 → ⊥) → same_bytes (drop i a) (drop i b) ≡ false
-  same_stop e = rw (drop_next a i h, drop_next b i k, ne_eqb (get_or a i 0) (get_or b i 0) e)
-
-pub same_end : (a b : List ℕ) (i : ℕ) → length a ≤ i → length b ≤ i → same_bytes (drop i a) (drop i b) ≡ true
-same_end a b i h k = rw (drop_of_length-le a h, drop_of_length-le b k)
-
+-- two lists of other lengths
 pub same_length : (a b : List ℕ) → (length a ≡ length b → ⊥) → same_bytes a b ≡ false
 same_length [] [] h = absurd (h refl)
 same_length [] (y ∷ b) h = refl

@@ -80,3 +80,8 @@ module _ (p : ℕ → Bool) where
 pub word_made : (line : List ℕ) (from at start end : ℕ) → at ≡ min from (length line) → start ≡ at + run is_space (drop at line) → end ≡ start + run in_word (drop start line) → ◌≡◌ {A = Word} (record { start = start; end = end }) (word_of line from)
 unfolding word_of
 word_made line from at start end e f g = rw (g, f, e)
+
+-- what `scan` and `find_byte` cite
+pub ruleset scanning = (run_on, run_stop, run_over)
+
+pub ruleset finding = (part_on, part_stop, part_past, part_end)

@@ -23,6 +23,7 @@ fn least(a: usize, b: usize) -> usize
 }
 
 // The bytes from start to end, as far as there are any.
+#[tactic(auto, using(crate::proofs::Bytes::part_clamp), unfolding(crate::specs::Bytes::part))]
 pub fn part(s: &[u8], start: usize, end: usize) -> &[u8]
     ensures { result.now ≡ Bytes·part s.now start end }
 {
@@ -31,6 +32,7 @@ pub fn part(s: &[u8], start: usize, end: usize) -> &[u8]
     &s[from..to]
 }
 
+#[tactic(auto, using(crate::proofs::Bytes::same_length))]
 pub fn same(a: &[u8], b: &[u8]) -> bool
     ensures { result ≡ same_bytes a.now b.now }
 {
@@ -58,6 +60,7 @@ fn passes(word: bool, b: u8) -> bool
 }
 
 // The first place from `from` on that a scan of a word, or else of spaces, does not pass.
+#[tactic(auto, using(crate::proofs::Runs::scanning))]
 fn scan(line: &[u8], from: usize, word: bool) -> usize
     ensures { (result ≡ from + run (passes word) (drop from line.now)) × (from ≤ result) × (result ≤ max from (length line.now)) }
 {
@@ -86,6 +89,7 @@ fn word_end(line: &[u8], from: usize) -> usize
 }
 
 // The next word of a line, from a place on.
+#[tactic(auto, using(crate::proofs::Runs::word_made))]
 pub fn next_word(line: &[u8], from: usize) -> Word
     ensures value { result ≡ word_of line.now from }
     ensures start_le_end { (result.start ≤ result.end) × (result.end ≤ length line.now) }
@@ -97,6 +101,7 @@ pub fn next_word(line: &[u8], from: usize) -> Word
 }
 
 // The first place between from and to that holds the byte, or `to`.
+#[tactic(auto, using(crate::proofs::Runs::finding), unfolding(crate::specs::Parts::find_of))]
 pub fn find_byte(s: &[u8], from: usize, to: usize, byte: u8) -> usize
     ensures value { result ≡ find_of byte s.now from to }
     ensures lower_bound { (from ≤ result) × (result ≤ max from to) }

@@ -94,3 +94,6 @@ space_on out o from i h k e =
     let m : i - from + 1 ≡ i + 1 - from = omega arith in
     written_then out from i (spaces (i - from)) (32 ∷ []) e (written_one o i 32 (omega arith)) (omega arith) (omega arith)
     ∙ ap (written out from) (sym (spaces-add (i - from) 1) ∙ ap spaces m)
+
+-- what `put_bytes` cites
+pub ruleset putting_bytes = (bytes-none, bytes_on)

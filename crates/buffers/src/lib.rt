@@ -5,6 +5,7 @@ ghost use Rattle.std.specs.Prelude.{◌≡◌, ◌+◌, ◌-◌, ◌≤◌, leng
 ghost use Rattle.buffers.specs.Buffer.{written, spaces, le, grown_of, kept_of};
 
 // The lowest `count` bytes of v at the place `at` of the buffer. Answers the place after them.
+#[tactic(auto, using(crate::proofs::Written::putting_bytes))]
 pub fn put_bytes(out: &mut [u8], at: usize, count: usize, v: u64) -> usize
     requires { at + count ≤ length out.old }
     ensures { (result ≡ at + count) × (out.new ≡ written out.old at (le count v)) }
@@ -43,6 +44,7 @@ pub fn put_spaces(out: &mut [u8], from: usize, to: usize)
 
 // A piece of a line put behind the `len` bytes that are in the buffer. Answers how long the line is then. One that has no room is longer than
 // the buffer, and stays so.
+#[tactic(auto, using(lists::proofs::Checks::checks), unfolding(crate::specs::Buffer::grown_of, crate::specs::Buffer::kept_of))]
 pub fn append(line: &mut [u8], len: usize, piece: &[u8]) -> usize
     ensures value { result ≡ grown_of (length line.old) len (length piece.now) }
     ensures line_after { line.new ≡ kept_of line.old len piece.now }

@@ -1,6 +1,7 @@
 // Repeated defaults of member 17 of one register of 64 members. Each case answers a checksum of its answers, which tests/bench_checksums.test
 // holds to the implementation in Rust; without a turn it is 0.
 #![tactic(auto)]
+
 pub mod fold;
 
 ghost use Rattle.std.specs.Prelude.{◌≡◌, ◌≤◌};

@@ -1,5 +1,6 @@
 // Reads the lines of the test program `refusals`: what stands before a byte and from it on, the numbers, and bytes in hexadecimal.
 #![tactic(auto)]
+
 ghost use Rattle.std.specs.Prelude.{◌≡◌, ◌≤◌, length};
 
 use admission::Pools;

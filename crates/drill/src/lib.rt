@@ -1,5 +1,6 @@
 // The calls of a drill: document 01, "Declaring a default" and "What statement 3 counts".
 #![tactic(auto)]
+
 pub mod in_place;
 
 ghost use Rattle.std.specs.Prelude.{◌≡◌};

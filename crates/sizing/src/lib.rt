@@ -1,5 +1,6 @@
 // Month-end fund sizing: document 01, "Stress sheet and sizing".
 #![tactic(auto)]
+
 mod fund;
 
 ghost use Rattle.std.specs.Prelude.{◌≡◌, ◌++◌, ◌≤◌, length, drop};
@@ -125,6 +126,7 @@ fn fund_from(cover: u64, weak: u64, columns: Columns, prevailing: u64, available
 }
 
 // "stress sheet before shares"
+#[tactic(auto, unfolding(lists::specs::Checks::check))]
 fn first_refusal(stress: Refusal, shares: Refusal) -> Refusal
     ensures { result ≡ check (refuses stress.number) stress shares }
 {
@@ -135,6 +137,7 @@ fn first_refusal(stress: Refusal, shares: Refusal) -> Refusal
 }
 
 // 1 to 8 in the paper's order, then the figures. Of the lent numbers it reads only how many they are.
+#[tactic(auto, unfolding(lists::specs::Checks::check, crate::specs::Sizing::sizing_refusal))]
 fn judge(stress: &[u8], shares: &[u8], prevailing: u64, available: u64, places: usize) -> Funded
     ensures { SizingFunds stress.now shares.now prevailing available places result }
 {
@@ -168,6 +171,7 @@ fn write(from: [u64; 64], lent: &mut [u64])
 }
 
 // Month-end fund sizing of any bytes and numbers. At a refusal the lent numbers stay as they are.
+#[tactic(auto, unfolding(lists::specs::Checks::check, crate::specs::Sizing::sized_of, crate::specs::Sizing::requirements_after, crate::specs::Sizing::fund_figures))]
 pub fn size(
     stress: &[u8],
     shares: &[u8],

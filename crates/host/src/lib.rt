@@ -28,7 +28,7 @@ pub extern "C" fn register_refusal(sheet: &[u8], own: u64) -> u8
 
 // The six layers of a default's answer and its shortfall, in thousands of rupees.
 #[repr(C)]
-#[derive(Drop)]
+#[derive(Clone, Copy)]
 pub struct DefaultAnswer {
     pub margin: u64,
     pub contribution: u64,

@@ -60,9 +60,6 @@ module _ (s : List ℕ) (n : ℕ) (h : 0 < n) (k : n ≤ length s) where
   pub back_stop : (get_or s (n - 1) 0 ≡ 32 → ⊥) → take n s ≡ trim_back (take n s)
   back_stop e = rw (last s n h k) (sym (stays (take (n - 1) s) (get_or s (n - 1) 0) e))
 
-pub none_kept : (s : List ℕ) (n : ℕ) → n ≡ 0 → take n s ≡ trim_back (take n s)
-none_kept s n h = rw h
-
 -- what is left of a cell, from its places
 pub trim_made : (s rest word : List ℕ) (from n : ℕ) → from ≡ 0 + run is_space (drop 0 s) → rest ≡ part s from (length s) → take n rest ≡ trim_back rest → word ≡ part rest 0 n → word ≡ trimmed s
 unfolding trimmed
@@ -118,3 +115,6 @@ field_fits bound blank limit s b l =
     check_by (Fits bound) (is_empty (trimmed s)) (Field.Value blank) (within limit (read_of (trimmed s)))
     (λ e. b)
     (λ e. within_fits bound limit l (read_of (trimmed s)))
+
+-- what `kept` cites
+pub ruleset keeping = (back_on, back_stop)

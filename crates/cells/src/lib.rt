@@ -15,6 +15,7 @@ pub enum Field {
 }
 
 // How long a line is without a CR before its end.
+#[tactic(auto, using(lists::proofs::Checks::checks, crate::proofs::Trimming::end_none), unfolding(crate::specs::Cells::end_of))]
 fn line_end(line: &[u8]) -> usize
     ensures { (result ≡ end_of line.now) × (result ≤ length line.now) }
 {
@@ -29,6 +30,7 @@ fn line_end(line: &[u8]) -> usize
 }
 
 // The line without its CR and without its comment.
+#[tactic(auto, using(crate::proofs::Trimming::content_made))]
 pub fn content(line: &[u8]) -> &[u8]
     ensures { result.now ≡ content_of line.now }
 {
@@ -38,6 +40,7 @@ pub fn content(line: &[u8]) -> &[u8]
 }
 
 // How long s is without the spaces at its end.
+#[tactic(auto, using(crate::proofs::Trimming::keeping))]
 fn kept(s: &[u8]) -> usize
     ensures { (result ≤ length s.now) × (take result s.now ≡ trim_back s.now) }
 {
@@ -117,6 +120,7 @@ fn cell_start(s: &[u8], k: usize) -> usize
 }
 
 // What the cell says that has k cells in front of it.
+#[tactic(auto, using(crate::proofs::Cutting::cell_at))]
 pub fn read_cell(s: &[u8], k: usize, blank: u64, limit: u64) -> Field
     requires { k < length (cells_of s.now) }
     ensures { result ≡ field_of blank limit (get_or (cells_of s.now) k []) }

@@ -46,6 +46,7 @@ pub enum Row {
     },
 }
 
+#[tactic(auto, unfolding(crate::specs::Rows::named_of, lists::specs::Checks::check))]
 pub fn kind_named(word: &[u8]) -> Named
     ensures { result ≡ named_of word.now }
 {
@@ -139,6 +140,7 @@ fn five(s: &[u8]) -> Row
     )
 }
 
+#[tactic(auto, using(crate::proofs::Making::row_skipped, crate::proofs::Making::row_made))]
 pub fn row_of_line(kind: Kind, line: &[u8]) -> Row
     ensures { result ≡ row_of kind line.now }
 {
@@ -194,6 +196,7 @@ fn put_stress(
 }
 
 // The record at the place `at` of the buffer, where the row is one. Answers the place after it.
+#[tactic(auto, using(buffers::proofs::Written::written_none))]
 pub fn put_row(out: &mut [u8], at: usize, row: Row) -> usize
     requires { at + 16 ≤ length out.old }
     ensures { (result ≡ at + length (bytes_of row)) × (out.new ≡ written out.old at (bytes_of row)) }

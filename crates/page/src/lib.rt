@@ -1,5 +1,6 @@
 // A default's answer as a page for the wall: document 02, request 1.
 #![tactic(auto)]
+
 ghost use Rattle.std.specs.Prelude.{◌≡◌, ◌+◌, ◌≤◌, length};
 ghost use Rattle.lists.specs.Limits.{printed_limit};
 ghost use Rattle.buffers.specs.Buffer.{written};

@@ -7,7 +7,7 @@ ghost use Rattle.numbers.specs.Numbers.{decimal_of, read_of, labelled};
 
 use buffers::put_text;
 
-#[derive(Drop)]
+#[derive(Clone, Copy)]
 pub enum Number {
     Value(u64),
     NotANumber,

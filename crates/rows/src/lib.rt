@@ -20,14 +20,14 @@ pub enum Kind {
 }
 
 // A kind by its name.
-#[derive(Drop)]
+#[derive(Clone, Copy)]
 pub enum Named {
     Known(Kind),
     Unknown,
 }
 
 // What a line holds: nothing, a record, or neither.
-#[derive(Drop)]
+#[derive(Clone, Copy)]
 pub enum Row {
     Skipped,
     Bad,

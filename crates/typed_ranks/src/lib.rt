@@ -17,7 +17,7 @@ const MEMBERS: u64 = MEMBER_LIMIT as u64;
 // 64 ranks for each of four pools, one pool behind the other.
 const PLACES: usize = POOL_LIMIT * MEMBER_LIMIT;
 
-#[derive(Drop)]
+#[derive(Clone, Copy)]
 enum Rank {
     Of { member: u64, rank: u64 },
     Bad,
@@ -93,7 +93,7 @@ fn is_slash(word: &[u8]) -> bool
 }
 
 // What the words of a pool give: whether each of them is a rank that can be used, whether a further pool follows, and the place from which it does.
-#[derive(Drop)]
+#[derive(Clone, Copy)]
 pub struct PoolRanks {
     pub good: bool,
     pub more: bool,

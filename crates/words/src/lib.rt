@@ -7,7 +7,7 @@ ghost use Rattle.words.specs.Words.{is_space, in_word};
 ghost use Rattle.words.specs.Parts.{passes, word_of, find_of};
 
 // Where a word stands. Where start is end, there is none.
-#[derive(Drop)]
+#[derive(Clone, Copy)]
 pub struct Word {
     pub start: usize,
     pub end: usize,

@@ -1,5 +1,6 @@
 // A line of a drill: what is called, and the ranks beside it.
 #![tactic(auto)]
+
 ghost use Rattle.std.specs.Prelude.{◌≡◌, true, false, ◌+◌, ◌*◌, ◌^◌, ◌≤◌, ◌<◌, min, length, take, drop};
 ghost use Rattle.lists.specs.Limits.{member_limit, pool_limit};
 ghost use Rattle.words.specs.Words.{words_of, no_word, first_of, rest_of};

@@ -1,5 +1,6 @@
 // A refusal as text, and what became of an opening. Each function answers the place after the text.
 #![tactic(auto)]
+
 ghost use Rattle.std.specs.Prelude.{◌≡◌, ◌+◌, ◌≤◌, length};
 ghost use Rattle.buffers.specs.Buffer.{written};
 ghost use Rattle.print_refusal.specs.Texts.{record_text, refusal_text, opening_text};

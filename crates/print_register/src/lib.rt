@@ -1,5 +1,6 @@
 // A register as text. Each function answers the place after the text.
 #![tactic(auto)]
+
 ghost use Rattle.std.specs.Prelude.{◌≡◌, ◌+◌, ◌*◌, ◌≤◌, length};
 ghost use Rattle.buffers.specs.Buffer.{written};
 ghost use Rattle.print_register.specs.Texts.{status_text, name_text, member_text, members_text, register_text};

@@ -1,5 +1,6 @@
 // The answers of a drill as text, from the front of the buffer on. Each function answers how long the text is, or the place after it.
 #![tactic(auto)]
+
 ghost use Rattle.std.specs.Prelude.{◌≡◌, ◌+◌, ◌*◌, ◌≤◌, length};
 ghost use Rattle.buffers.specs.Buffer.{written};
 ghost use Rattle.print_answers.specs.Texts.{unreadable_text, allocation_text, charge_text, charges_text, reply_text};

@@ -1,5 +1,6 @@
 // A sizing's answer as text, from the front of the buffer on. Each function answers how long the text is, or the place after it.
 #![tactic(auto)]
+
 ghost use Rattle.std.specs.Prelude.{◌≡◌, ◌+◌, ◌*◌, ◌≤◌, length};
 ghost use Rattle.buffers.specs.Buffer.{written};
 ghost use Rattle.print_sizing.specs.Texts.{figures_text, requirement_text, requirements_text, sized_text};

@@ -23,6 +23,7 @@ enum Rank {
     Bad,
 }
 
+#[tactic(auto, unfolding(lists::specs::Checks::check))]
 fn ranked(member: Number, rank: Field) -> Rank
     ensures { result ≡ ranked_of member rank }
 {
@@ -68,6 +69,7 @@ pub fn clear(ranks: &mut [u8])
 }
 
 // The rank that a word gives, where its member has none yet.
+#[tactic(auto, using(crate::proofs::Ranking::fits_is))]
 fn take_rank(word: &[u8], ranks: &mut [u8], named: &mut [u8]) -> bool
     requires { (length ranks.old ≡ 64) × (length named.old ≡ 64) }
     ensures value { result ≡ is_good named.old (rank_of word.now) }

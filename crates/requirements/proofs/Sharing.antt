@@ -1,12 +1,10 @@
 -- Laws of a quantum shared: parts by the split, and parts joined to requirements.
-use Prim.Native.Nat.{ℕ, ◌+◌, ◌≤◌, ◌<◌, max}
+use Prim.Native.Nat.{ℕ, ◌≤◌, max}
 use mathlib.Core.Path.{◌≡◌, ap, sym, ◌∙◌}
-use mathlib.Core.Bool.{Bool, false, cond}
-use mathlib.Core.List.{List, [], ◌∷◌, map}
+use mathlib.Core.Bool.{Bool}
+use mathlib.Core.List.{List, map}
 use native.Mathlib.Nat.{le_trans}
-use native.Mathlib.Numerals.{add-one}
-use lib.ListN.{length, get_or, drop, replicate, drop_of_length-le}
-use lib.Seq.{drop-cons}
+use lib.ListN.{length, get_or, replicate}
 use Rattle.lists.specs.Limits.{member_limit, allocation_limit, contribution_floor}
 use Rattle.lists.specs.Sums.{total, plus, keep}
 use Rattle.lists.proofs.Sums.{all_zeros}
@@ -28,12 +26,3 @@ part-le l ws k e h = rw e (le_trans (split-le l ws k) h)
 -- three parts joined
 abbrev pub joined_of : List Bool → List ℕ → List ℕ → List ℕ → List ℕ
 joined_of present margin stress volume = keep present (map (max contribution_floor) (plus margin (plus stress volume)))
-
-pub joined_step : (ps : List Bool) (xs ys zs : List ℕ) (i r : ℕ) → i < length ps → i < length xs → i < length ys → i < length zs
-    → r ≡ cond (get_or ps i false) (max contribution_floor (get_or xs i 0 + (get_or ys i 0 + get_or zs i 0))) 0
-    → joined_of (drop i ps) (drop i xs) (drop i ys) (drop i zs) ≡ r ∷ joined_of (drop (i + 1) ps) (drop (i + 1) xs) (drop (i + 1) ys) (drop (i + 1) zs)
-joined_step ps xs ys zs i r hp hx hy hz e =
-    rw (e, add-one, drop-cons ps i false, drop-cons xs i 0, drop-cons ys i 0, drop-cons zs i 0)
-
-pub joined_end : (ps : List Bool) (xs ys zs : List ℕ) (i : ℕ) → length ps ≤ i → joined_of (drop i ps) (drop i xs) (drop i ys) (drop i zs) ≡ []
-joined_end ps xs ys zs i h = rw (drop_of_length-le ps h)

@@ -5,7 +5,7 @@ use mathlib.Core.Bool.{false}
 use mathlib.Core.List.{List}
 use native.Mathlib.Omega.{arith}
 use borrow.Author.Tests.{ltb-false, leb-false, eqb-false}
-use lib.ListN.{length, length-drop}
+use lib.ListN.{length}
 use Rattle.lists.specs.Checks.{check, refuses}
 use Rattle.lists.specs.Limits.{member_limit, amount_limit}
 use Rattle.lists.proofs.Checks.{check_past, check-lt, check_nlt, neither}
@@ -111,10 +111,6 @@ sized most sheet e =
       some = omega arith;
       few = omega arith;
     }
-
--- each record that is counted has its 16 bytes
-pub record_whole : (sheet : List ℕ) (i : ℕ) → i < record_count sheet → 16 ≤ length (record_at sheet i)
-record_whole sheet i h = omega (arith, length-drop (i * 16) sheet)
 
 -- a sheet read record by record --------------------------------------------------
 

@@ -9,8 +9,8 @@ use lib.Dec.{ltb}
 use lib.ListN.{length, drop}
 use Rattle.lists.specs.Checks.{check, refuses}
 use Rattle.lists.specs.Limits.{member_limit, sum_limit, stress_limit}
-use Rattle.lists.proofs.Checks.{check-true, check-false, check-lt, check_nlt, neither, no-refusal}
-use Rattle.sheets.specs.Sheet.{refusal, no_refusal, missized}
+use Rattle.lists.proofs.Checks.{check-true, check-false, check-lt, check_nlt, no-refusal}
+use Rattle.sheets.specs.Sheet.{refusal, missized}
 use Rattle.stress.specs.Stress.{stress_refusal}
 use Rattle.sheets.specs.declared.Refusal.{Refusal}
 use Rattle.cover.specs.Cover.{cover_of, weak_of}
@@ -53,22 +53,7 @@ module _ (stress shares : List ℕ) (prevailing available places : ℕ) where
       (check (refuses (shares_refusal shares).number) (shares_refusal shares)
       (fund_refusal (cover_of stress) (weak_of stress) (columns_of shares) prevailing available))
 
-  pub refused_1 : sheets-unfit ≡ true → sizing_refusal stress shares prevailing available places ≡ refusal 1 0
-  unfolding sizing_refusal
-  refused_1 e = sym (check-true _ _ _ e refl)
-
-  pub refused_2 : sheets-unfit ≡ false → sums-unfit ≡ true → sizing_refusal stress shares prevailing available places ≡ refusal 2 0
-  unfolding sizing_refusal
-  refused_2 e f = sym (check-false _ _ _ e (check-true _ _ _ f refl))
-
-  pub refused_3 : sheets-unfit ≡ false → sums-unfit ≡ false → places < member_limit → sizing_refusal stress shares prevailing available places ≡ refusal 3 0
-  unfolding sizing_refusal
-  refused_3 e f h = sym (check-false _ _ _ e (check-false _ _ _ f (check-lt _ _ places member_limit h refl)))
-
   module _ (e : sheets-unfit ≡ false) (f : sums-unfit ≡ false) (h : member_limit ≤ places) where
-    pub prevailing-within : prevailing ≤ sum_limit
-    prevailing-within = ltb-false _ _ (neither _ _ f).0
-
     fit : from_4 ≡ sizing_refusal stress shares prevailing available places
     unfolding sizing_refusal
     fit = check-false _ _ _ e (check-false _ _ _ f (check_nlt _ _ places member_limit h refl))
@@ -87,23 +72,17 @@ module _ (stress shares : List ℕ) (prevailing available places : ℕ) where
 
 -- the answer and the lent numbers ------------------------------------------------------------
 
--- an answer with a number is a refusal's, and one without has the figures
-module _ (r : Refusal) (figures sized : Sized) (accepts : figures.refusal ≡ no_refusal) (is : sized ≡ check (refuses r.number) (refused_sizing r) figures) where
-  by_test : (t : Bool) → refuses r.number ≡ t → (0 < sized.refusal.number → t ≡ true) × (sized.refusal.number ≤ 0 → t ≡ false)
-  by_test true e = (λ h. refl, λ h. absurd (omega (arith, ltb-true 0 r.number e, number)))
+-- an answer without a number has the figures
+module _ (r : Refusal) (figures sized : Sized) (is : sized ≡ check (refuses r.number) (refused_sizing r) figures) where
+  by_test : (t : Bool) → refuses r.number ≡ t → sized.refusal.number ≤ 0 → t ≡ false
+  by_test true e h = absurd (omega (arith, ltb-true 0 r.number e, number))
     where
       number : sized.refusal.number ≡ r.number
       number = ap (λ (s : Sized). s.refusal.number) (is ∙ sym (check-true (refused_sizing r) figures _ e refl))
-  by_test false e = (λ h. absurd (omega (arith, number)), λ h. refl)
-    where
-      number : sized.refusal.number ≡ 0
-      number = ap (λ (s : Sized). s.refusal.number) (is ∙ sym (check-false (refused_sizing r) figures _ e refl)) ∙ ap (λ (x : Refusal). x.number) accepts
-
-  pub refuses_with : 0 < sized.refusal.number → refuses r.number ≡ true
-  refuses_with = (by_test (refuses r.number) refl).0
+  by_test false e h = refl
 
   pub accepts-without : sized.refusal.number ≤ 0 → refuses r.number ≡ false
-  accepts-without = (by_test (refuses r.number) refl).1
+  accepts-without = by_test (refuses r.number) refl
 
 module _ (stress shares : List ℕ) (prevailing available : ℕ) (funded : Funded) where
   pub answer_is : (places : ℕ) → SizingFunds stress shares prevailing available places funded → funded.sized ≡ sized_of stress shares prevailing available places
@@ -116,21 +95,12 @@ module _ (stress shares : List ℕ) (prevailing available : ℕ) (funded : Funde
   abbrev written : List ℕ → List ℕ
   written lent = requirements_of figures.quantum (columns_of shares) ++ drop member_limit lent
 
-  accepts : figures.refusal ≡ no_refusal
-  unfolding fund_figures
-  accepts = refl
-
   module _ (lent : List ℕ) (f : SizingFunds stress shares prevailing available (length lent) funded) where
     abbrev holds : Refusal
     holds = sizing_refusal stress shares prevailing available (length lent)
 
     none : funded.sized.refusal.number ≤ 0 → refuses holds.number ≡ false
-    none h = accepts-without holds figures funded.sized accepts f.sized_is h
-
-    pub lent_stays : 0 < funded.sized.refusal.number → lent ≡ requirements_after stress shares prevailing available lent
-    unfolding requirements_after fund_figures
-    lent_stays h =
-        check-true lent (written lent) (refuses holds.number) (refuses_with holds figures funded.sized accepts f.sized_is h) refl
+    none h = accepts-without holds figures funded.sized f.sized_is h
 
     pub lent_written : (out : List ℕ) → funded.sized.refusal.number ≤ 0 → out ≡ funded.requirements ++ drop member_limit lent
         → out ≡ requirements_after stress shares prevailing available lent

@@ -10,7 +10,7 @@ use borrow.Author.Tests.{lt-ltb, le-ltb, le-leb, lt-leb, ne_eqb, eqb-true}
 use lib.Dec.{eqb, leb, ltb}
 use Rattle.std.proofs.lemmas.Bool.{not-true}
 use Rattle.lists.specs.Checks.{check}
-use Rattle.lists.specs.Limits.{missing_amount, member_limit, amount_limit, day_limit, scenario_limit, weak_limit}
+use Rattle.lists.specs.Limits.{missing_amount, member_limit, amount_limit, weak_limit}
 use Rattle.lists.proofs.Checks.{check-true, check-false, check-lt, check_nlt, check_no, neither, both}
 use Rattle.lists.proofs.Tests.{positive-sum, positive_multiple, zero_test, not-or, not_both}
 use Rattle.sheets.specs.Bytes.{byte, le16, le32, absent_amount, beyond, nonzero}
@@ -59,9 +59,6 @@ tail_by-number s =
     (λ p.
     simp (lt-ltb amount_limit (loss_at s) (omega arith), lt-leb (loss_at s + le32 s 12 * 4_294_967_296) amount_limit (omega arith), or-true))
     (eq-zero-or-pos (loss_at s - amount_limit))
-
-pub placed_by-parts : (s : List ℕ) → (not (beyond 1 day_limit (day_at s)) && not (beyond 1 scenario_limit (scenario_at s))) ≡ not (block_beyond s)
-placed_by-parts s = sym (not-or (beyond 1 day_limit (day_at s)) (beyond 1 scenario_limit (scenario_at s)))
 
 pub outside_by-block : (s : List ℕ) (placed : Bool) → placed ≡ not (block_beyond s)
     → (not placed || beyond 1 member_limit (stressed_at s) || beyond 0 1 (weak_at s)

@@ -1,5 +1,6 @@
 // What a console host in C calls: see host.h.
 #![tactic(auto)]
+
 ghost use Rattle.std.specs.Prelude.{◌≡◌, length};
 ghost use Rattle.sizing.specs.Review.{review_due};
 ghost use Rattle.waterfall.specs.Opening.{opened_of};

@@ -1,5 +1,6 @@
 // The page of the latest accepted default as run_drill prints it.
 #![tactic(auto)]
+
 ghost use Rattle.std.specs.Prelude.{◌≡◌, ◌≤◌, length};
 ghost use Rattle.buffers.specs.Buffer.{written};
 ghost use Rattle.print_page.specs.Texts.{latest_of, page_text};

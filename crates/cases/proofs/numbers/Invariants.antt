@@ -1,5 +1,6 @@
 -- `cases::numbers` reads and writes within its lists and ends.
-use Rattle.std.proofs.Common.{◌≤◌, ◌-◌, length}
+use Prim.Native.Nat.{◌≤◌, ◌-◌}
+use lib.ListN.{length}
 use Rattle.cases.proofs.numbers.Given as goal
 
 abbrev pub invariant-loop-i : goal.invariant-loop-i

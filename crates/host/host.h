@@ -1,4 +1,4 @@
-/* What the engine gives a console host in C: link libhost.a, which `rt staticlib host` writes. */
+/* What the engine gives a console host in C: link out/libhost.a, which `rt lib` writes in this folder. */
 #ifndef DRILL_HOST_H
 #define DRILL_HOST_H
 

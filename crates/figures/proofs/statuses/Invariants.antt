@@ -1,5 +1,5 @@
 -- `figures::statuses` meets its contract. The loop's invariant: what is filled, with the rest behind it, is the whole list.
-use Prim.Native.Nat.{◌≤◌, ◌-◌}
+use Prim.Native.Nat.{◌≤◌}
 use mathlib.Core.Path.{◌≡◌}
 use mathlib.Core.List.{◌++◌, map}
 use lib.ListN.{length, take, drop}
@@ -10,6 +10,3 @@ use Rattle.figures.proofs.statuses.Given as goal
 abbrev pub invariant-loop-i : goal.invariant-loop-i
 invariant-loop-i l =
     (l.i ≤ member_limit) × (length l.status ≡ member_limit) × (take l.i l.status ++ map status_of (drop l.i l.present) ≡ map status_of l.present)
-
-abbrev pub decreases-loop-i : goal.decreases-loop-i
-decreases-loop-i l = member_limit - l.i

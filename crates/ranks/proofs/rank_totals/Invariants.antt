@@ -1,6 +1,6 @@
 -- `ranks::rank_totals` meets its contract. The loop's invariant: each rank's total so far, with the weights of that rank that are left, is
 -- its total.
-use Prim.Native.Nat.{◌+◌, ◌-◌, ◌≤◌}
+use Prim.Native.Nat.{◌+◌, ◌≤◌}
 use mathlib.Core.Path.{◌≡◌}
 use lib.ListN.{length}
 use Rattle.lists.specs.Limits.{rank_limit}
@@ -9,6 +9,3 @@ use Rattle.ranks.proofs.rank_totals.Given as goal
 
 abbrev pub invariant-loop-i : goal.invariant-loop-i
 invariant-loop-i l = (l.i ≤ 64) × (length l.totals ≡ rank_limit + 1) × Adding l.totals l.weights l.ranks l.i
-
-abbrev pub decreases-loop-i : goal.decreases-loop-i
-decreases-loop-i l = 64 - l.i

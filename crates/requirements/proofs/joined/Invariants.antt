@@ -1,5 +1,5 @@
 -- `requirements::joined` meets its contract. The loop's invariant: what is filled, with the requirements that are left, is the result.
-use Prim.Native.Nat.{◌-◌, ◌≤◌}
+use Prim.Native.Nat.{◌≤◌}
 use mathlib.Core.Path.{◌≡◌}
 use mathlib.Core.List.{◌++◌}
 use lib.ListN.{length, take, drop}
@@ -10,6 +10,3 @@ abbrev pub invariant-loop-i : goal.invariant-loop-i
 invariant-loop-i l =
     (l.i ≤ 64) × (length l.out ≡ 64)
     × (take l.i l.out ++ joined_of (drop l.i l.present) (drop l.i l.margin) (drop l.i l.stress) (drop l.i l.volume) ≡ joined_of l.present l.margin l.stress l.volume)
-
-abbrev pub decreases-loop-i : goal.decreases-loop-i
-decreases-loop-i l = 64 - l.i

@@ -1,5 +1,5 @@
 -- `lists::numbers::widened` meets its contract. The loop's invariant: what is filled, with the rest of the amounts behind it, is the whole list.
-use Prim.Native.Nat.{◌≤◌, ◌-◌}
+use Prim.Native.Nat.{◌≤◌}
 use mathlib.Core.Path.{◌≡◌}
 use mathlib.Core.List.{◌++◌}
 use lib.ListN.{length, take, drop}
@@ -9,6 +9,3 @@ use Rattle.lists.proofs.numbers.widened.Given as goal
 abbrev pub invariant-loop-i : goal.invariant-loop-i
 invariant-loop-i l =
     (l.i ≤ member_limit) × (length l.numbers ≡ member_limit) × (take l.i l.numbers ++ drop l.i l.amounts ≡ l.amounts)
-
-abbrev pub decreases-loop-i : goal.decreases-loop-i
-decreases-loop-i l = member_limit - l.i

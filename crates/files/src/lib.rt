@@ -1,7 +1,7 @@
 // The arguments and the sheet files of the console programs.
 #![tactic(auto)]
 
-ghost use Rattle.std.specs.Prelude.{◌≤◌, length};
+ghost use Rattle.std.specs.Prelude.{◌<◌, ◌≤◌, ◌^◌, length};
 ghost use Rattle.files.specs.Files.{Fits64, Within};
 ghost use Rattle.files.specs.Parts.{StepWithin};
 
@@ -48,8 +48,10 @@ fn is_there(rt: &impl Env, i: usize) -> bool {
     }
 }
 
-// How many arguments the program was started with, its own name among them.
-pub fn arg_count(rt: &impl Env) -> usize {
+// How many arguments the program was started with, its own name among them. No contract can say which they are.
+pub fn arg_count(rt: &impl Env) -> usize
+    ensures { result < 2 ^ 64 }
+{
     for i in 0..usize::MAX {
         if !is_there(rt, i) {
             return i;

@@ -140,6 +140,7 @@ fn pools_misranked<'a>(status: &'a [u8; 64], ranks: &'a [u8], count: usize) -> b
 }
 
 // 11, 12, 21, 13, 22, 14 and 15 of a default: the number of the first that holds, 0 where none does.
+#[tactic(auto, unfolding(lists::specs::Checks::check))]
 pub fn default_refusal(status: [u8; 64], member: u64, pools: Pools, ranks: &[u8], slip: usize) -> u8
     requires { length status ≡ member_limit }
     ensures { result ≡ pools_admission status member pools ranks.now slip 0 }
@@ -173,6 +174,7 @@ fn unfit(amount: u64, most: u64) -> bool
 }
 
 // 11, 12, and the refusal of an unfit amount by its number, 16 or 17: the first that holds, 0 where none does.
+#[tactic(auto, unfolding(lists::specs::Checks::check))]
 pub fn amount_refusal(status: &[u8; 64], member: u64, amount: u64, most: u64, number: u8) -> u8
     requires { length status.now ≡ member_limit }
     ensures { result ≡ standing status.now member (check (unfit amount most) number 0) }

@@ -29,6 +29,7 @@ fn excessive(a: Allocation) -> bool
 }
 
 // 20 where an answer is not printed on so many bytes, 0 else.
+#[tactic(auto, unfolding(lists::specs::Checks::check, crate::specs::Page::page_refusal))]
 fn refusal(a: Allocation, size: usize) -> u8
     ensures { result ≡ page_refusal a size }
 {
@@ -89,6 +90,7 @@ fn put_lower(page: &mut [u8], at: usize, a: Allocation) -> usize
 }
 
 // The page of an answer, put into the front of a lent one. Answers 0, or 20 where it is refused, before anything is written.
+#[tactic(auto, unfolding(lists::specs::Checks::check, crate::specs::Page::page_left))]
 pub fn print(answer: Allocation, page: &mut [u8]) -> u8
     ensures value { result ≡ page_refusal answer (length page.old) }
     ensures page_after { page.new ≡ page_left answer page.old }

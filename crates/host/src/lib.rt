@@ -1,4 +1,4 @@
-// What a console host in C calls: see host.h.
+// What a console host calls. host_c exports it to C: see host.h.
 #![tactic(auto)]
 
 ghost use Rattle.std.specs.Prelude.{◌≡◌, length};
@@ -10,8 +10,7 @@ ghost use Rattle.host.specs.Host.{answer_of};
 use waterfall::Allocation;
 
 // Whether a review is triggered: 100C is more than 80A, for any two numbers.
-#[unsafe(no_mangle)]
-pub extern "C" fn review_due(cover: u64, target: u64) -> bool
+pub fn review_due(cover: u64, target: u64) -> bool
     ensures { result ≡ review_due cover target }
 {
     sizing::review_due(cover, target)
@@ -19,8 +18,7 @@ pub extern "C" fn review_due(cover: u64, target: u64) -> bool
 
 // "For a register sheet and G it is given the refusal number alone, 0 if accepted." An empty sheet is refused with 1 before a byte of it is read: C may
 // hand over a null with length 0.
-#[unsafe(no_mangle)]
-pub extern "C" fn register_refusal(sheet: &[u8], own: u64) -> u8
+pub fn register_refusal(sheet: &[u8], own: u64) -> u8
     ensures { result ≡ (opened_of sheet.now own).refusal.number }
 {
     let opened = waterfall::opening::open(sheet, own);
@@ -42,8 +40,7 @@ pub struct DefaultAnswer {
 
 // The page of a default's answer, put into the front of the lent one: 0, or 20 where it is refused and nothing is written. C may hand over a null with
 // length 0.
-#[unsafe(no_mangle)]
-pub extern "C" fn print_page(answer: DefaultAnswer, page: &mut [u8]) -> u8
+pub fn print_page(answer: DefaultAnswer, page: &mut [u8]) -> u8
     ensures value { result ≡ page_refusal (answer_of answer) (length page.old) }
     ensures page_after { page.new ≡ page_left (answer_of answer) page.old }
 {

@@ -1,4 +1,4 @@
-/* What the engine gives a console host in C: link out/libhost.a, which `rt lib` writes in this folder. */
+/* What the engine gives a console host in C: link target/staticlib/libhost.a, which tools/archive writes. */
 #ifndef DRILL_HOST_H
 #define DRILL_HOST_H
 

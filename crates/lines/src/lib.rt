@@ -275,6 +275,7 @@ fn alone(says: Line, line: &[u8], from: usize) -> Line
 }
 
 // A line that begins with a word other than `default`.
+#[tactic(auto, unfolding(lists::specs::Checks::check, crate::specs::Lines::other_line))]
 fn other_line(line: &[u8], word: &[u8], from: usize) -> Line
     ensures { result ≡ other_line word.now (words_of (drop from line.now)) }
 {

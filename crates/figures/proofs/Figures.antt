@@ -1,21 +1,58 @@
--- Laws of a member's figure, and of a figure replaced.
+-- Laws of what stands at a member's number, and of a list in which that is replaced.
 use Prim.Native.Nat.{ℕ, zero, suc, ◌+◌, ◌-◌, ◌≤◌, ◌<◌, zero-le}
-use mathlib.Core.Path.{◌≡◌, refl, ap, sym, ◌∙◌}
-use mathlib.Core.Bool.{Bool, true, false, ◌||◌}
-use mathlib.Core.Logic.{inl, inr}
+use mathlib.Core.Path.{◌≡◌, refl, ap, ◌∙◌}
+use mathlib.Core.Bool.{Bool, true, false, cond}
 use mathlib.Core.List.{List, [], ◌∷◌}
 use native.Mathlib.Numerals.{sub-one}
 use native.Mathlib.Omega.{arith}
-use borrow.Author.Tests.{ltb-true, ltb-false, eqb-true, eqb-false}
-use lib.Dec.{eqb, ltb}
-use lib.ListN.{length, get_or, length-map, get_or-eq_default}
+use borrow.Author.Tests.{eqb-true, eqb-false}
+use lib.Dec.{eqb}
+use lib.ListN.{length, get_or, length-map, get_or-map, get_or-eq_default}
 use lib.Seq.{get_or-set_same, get_or-set_other}
 use Rattle.lists.specs.Limits.{member_limit}
-use Rattle.lists.specs.Sums.{plus, minus}
-use Rattle.lists.proofs.Checks.{neither, either}
-use Rattle.lists.proofs.Places.{get_d_map}
+use Rattle.lists.specs.Sums.{plus, minus, keep}
 use Rattle.lists.proofs.Sums.{get_or-plus, get_or-minus, get_or_zeros}
-use Rattle.figures.specs.Figures.{figure, replace, none, live, live_in}
+use Rattle.figures.specs.declared.Status.{Status}
+use Rattle.figures.specs.declared.Status.TheVariants.{Absent}
+use Rattle.figures.specs.Figures.{of_member, figure, replace, none, is_live, of_live, live_in}
+
+-- by whether a number is the member's
+pub by-member : (P : Bool → Type 0) (m n : ℕ) → (m ≡ n → P true) → ((m ≡ n → ⊥) → P false) → P (eqb m n)
+by-member P m n p q = go (eqb m n) refl
+  where
+    go : (b : Bool) → eqb m n ≡ b → P b
+    go true e = p (eqb-true m n e)
+    go false e = q (eqb-false m n e)
+
+module _ {A : Type 0} (nobody : A) where
+  -- where somebody stands, the number has a place in the list
+  pub place_of : (xs : List A) (m : ℕ) → (of_member nobody xs m ≡ nobody → ⊥) → (0 < m) × (m ≤ length xs)
+  place_of xs zero h = absurd (h refl)
+  place_of xs (suc k) h = (omega arith, within xs k h)
+    where
+      within : (ys : List A) (j : ℕ) → (get_or ys j nobody ≡ nobody → ⊥) → suc j ≤ length ys
+      within [] j p = absurd (p refl)
+      within (y ∷ ys) zero p = omega arith
+      within (y ∷ ys) (suc j) p = omega (arith, within ys j p)
+
+  -- what was put in, and what stands at the other numbers
+  pub same_member : (xs : List A) (m n : ℕ) (x : A) → 0 < m → m ≤ length xs → m ≡ n → of_member nobody (replace xs m x) n ≡ x
+  same_member xs zero n x h k e = absurd (omega arith)
+  same_member xs (suc i) n x h k e = rw (← e, sub-one) (get_or-set_same xs i x nobody (omega arith))
+
+  pub other_member : (xs : List A) (m n : ℕ) (x : A) → 0 < m → (m ≡ n → ⊥) → of_member nobody (replace xs m x) n ≡ of_member nobody xs n
+  other_member xs m zero x h e = refl
+  other_member xs m (suc k) x h e = get_or-set_other xs (m - 1) k x nobody (λ p. e (omega arith))
+
+  -- what holds of what stood there and of what is put in, and of anything that stays, holds at each number before and after
+  pub replaced_at : (P : Bool → A → A → Type 0) (xs : List A) (m n : ℕ) (x : A) → 0 < m → m ≤ length xs → P true (of_member nobody xs m) x → ((y : A) → P false y y)
+      → P (eqb m n) (of_member nobody xs n) (of_member nobody (replace xs m x) n)
+  replaced_at P xs m n x h k p q =
+      by-member (λ b. P b (of_member nobody xs n) (of_member nobody (replace xs m x) n)) m n
+      (λ e. rw (same_member xs m n x h k e, ← ap (of_member nobody xs) e) p)
+      (λ d. rw (other_member xs m n x h d) (q (of_member nobody xs n)))
+
+-- figures ------------------------------------------------------------------------
 
 -- where a member stands
 pub figure_at : (xs : List ℕ) (m : ℕ) → 0 < m → figure xs m ≡ get_or xs (m - 1) 0
@@ -28,46 +65,22 @@ figure-le_at xs (suc k) = rw sub-one (omega arith)
 
 -- a number with a figure is a member's
 pub figure-member : (xs : List ℕ) (m : ℕ) → 0 < figure xs m → (0 < m) × (m ≤ length xs)
-figure-member xs zero h = absurd (omega arith)
-figure-member xs (suc k) h = (omega arith, within xs k h)
-  where
-    within : (ys : List ℕ) (j : ℕ) → 0 < get_or ys j 0 → suc j ≤ length ys
-    within [] j p = absurd (omega arith)
-    within (y ∷ ys) zero p = omega arith
-    within (y ∷ ys) (suc j) p = omega (arith, within ys j p)
+figure-member xs m h = place_of 0 xs m (λ e. omega arith)
 
 -- a number past the list has figure 0
 pub figure_past : (xs : List ℕ) (m : ℕ) → length xs < m → figure xs m ≡ 0
 figure_past xs m h = figure_at xs m (omega arith) ∙ get_or-eq_default xs 0 (omega arith)
 
--- so where a member is in the register, its figures have a place
-pub figure_place : (xs : List ℕ) (m x : ℕ) → x ≡ figure xs m → (x ≡ 0 → ⊥) → (0 < m) × (m ≤ length xs)
-figure_place xs m x e h = figure-member xs m (omega arith)
-
 -- the figure that was put in, and those of the others
 pub figure_same : (xs : List ℕ) (m n x : ℕ) → 0 < m → m ≤ length xs → m ≡ n → figure (replace xs m x) n ≡ x
-figure_same xs m n x h k e =
-    rw (← e) (figure_at (replace xs m x) m h ∙ get_or-set_same xs (m - 1) x 0 (omega arith))
+figure_same xs m n x h k e = same_member 0 xs m n x h k e
 
 pub figure_other : (xs : List ℕ) (m n x : ℕ) → 0 < m → (m ≡ n → ⊥) → figure (replace xs m x) n ≡ figure xs n
-figure_other xs m zero x h e = refl
-figure_other xs m (suc k) x h e = get_or-set_other xs (m - 1) k x 0 (λ p. e (omega arith))
+figure_other xs m n x h e = other_member 0 xs m n x h e
 
--- by whether a number is the member's
-pub by-member : (P : Bool → Type 0) (m n : ℕ) → (m ≡ n → P true) → ((m ≡ n → ⊥) → P false) → P (eqb m n)
-by-member P m n p q = go (eqb m n) refl
-  where
-    go : (b : Bool) → eqb m n ≡ b → P b
-    go true e = p (eqb-true m n e)
-    go false e = q (eqb-false m n e)
-
--- what holds of a member's figure and the one put in, and of any figure that stays, holds of each figure before and after
 pub replaced : (P : Bool → ℕ → ℕ → Type 0) (xs : List ℕ) (m n x : ℕ) → 0 < m → m ≤ length xs → P true (figure xs m) x → ((y : ℕ) → P false y y)
     → P (eqb m n) (figure xs n) (figure (replace xs m x) n)
-replaced P xs m n x h k p q =
-    by-member (λ b. P b (figure xs n) (figure (replace xs m x) n)) m n
-    (λ e. rw (figure_same xs m n x h k e, ← ap (figure xs) e) p)
-    (λ d. rw (figure_other xs m n x h d) (q (figure xs n)))
+replaced P xs m n x h k p q = replaced_at 0 P xs m n x h k p q
 
 -- sums and differences place by place
 pub figure-plus : (xs ys : List ℕ) (m : ℕ) → figure (plus xs ys) m ≡ figure xs m + figure ys m
@@ -91,20 +104,31 @@ pub figure_bound : (xs : List ℕ) (b : ℕ) → ((k : ℕ) → get_or xs k 0 �
 figure_bound xs b h zero = zero-le
 figure_bound xs b h (suc k) = h k
 
--- a number that is no member's has figure 0, every other has a place
-module _ (m : ℕ) (o : Bool) (e : o ≡ (eqb m 0 || ltb member_limit m)) where
-  pub figure-outside : (xs : List ℕ) → length xs ≡ member_limit → o ≡ true → figure xs m ≡ 0
-  figure-outside xs l h =
-      elim (either (eqb m 0) (ltb member_limit m) (sym e ∙ h)) [
-        | inl p ↦ rw (eqb-true m 0 p)
-        | inr p ↦ figure_past xs m (omega (arith, ltb-true member_limit m p))
-      ]
-
-  pub inside : o ≡ false → (0 < m) × (m ≤ member_limit)
-  inside h =
-      let n = neither (eqb m 0) (ltb member_limit m) (sym e ∙ h) in
-      (omega (arith, eqb-false m 0 n.0), ltb-false member_limit m n.1)
+-- statuses -------------------------------------------------------------------------
 
 -- whether the member at a place is live
-pub live_at : (status : List ℕ) (i : ℕ) → i < length status → (i < length (live_in status)) × (get_or (live_in status) i false ≡ eqb live (get_or status i 0))
-live_at status i h = (omega (arith, length-map status (eqb live)), get_d_map (eqb live) status i h)
+pub live_at : (status : List Status) (i : ℕ) → get_or (live_in status) i false ≡ is_live (get_or status i Absent)
+live_at status i = get_or-map is_live status i Absent
+
+pub length-live : (status : List Status) → length (live_in status) ≡ length status
+length-live status = length-map status is_live
+
+-- what the live members have
+module _ {A : Type 0} (nothing : A) where
+  pub length-of_live : (status : List Status) (xs : List A) → length status ≡ length xs → length (of_live nothing status xs) ≡ length xs
+  length-of_live [] xs e = e
+  length-of_live (s ∷ status) [] e = refl
+  length-of_live (s ∷ status) (x ∷ xs) e = ap suc (length-of_live status xs (omega arith))
+
+  pub get_or-of_live : (status : List Status) (xs : List A) (i : ℕ) (s : Status) (x : A) → i < length status → i < length xs
+      → get_or (of_live nothing status xs) i nothing ≡ cond (is_live (get_or status i s)) (get_or xs i x) nothing
+  get_or-of_live [] xs i d e h k = absurd (omega arith)
+  get_or-of_live (s ∷ status) [] i d e h k = absurd (omega arith)
+  get_or-of_live (s ∷ status) (x ∷ xs) zero d e h k = refl
+  get_or-of_live (s ∷ status) (x ∷ xs) (suc i) d e h k = get_or-of_live status xs i d e (omega arith) (omega arith)
+
+-- figures that are kept at the places of live members
+pub of_live-keep : (status : List Status) (xs : List ℕ) → of_live 0 status xs ≡ keep (live_in status) xs
+of_live-keep [] xs = refl
+of_live-keep (s ∷ status) [] = refl
+of_live-keep (s ∷ status) (x ∷ xs) = ap (λ (ys : List ℕ). cond (is_live s) x 0 ∷ ys) (of_live-keep status xs)

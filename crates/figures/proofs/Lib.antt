@@ -1,2 +1,3 @@
 -- The laws that the proofs of `figures` and of the crates above cite.
 pub mod Figures
+pub mod Made

@@ -1,1 +1,2 @@
--- No lemma is needed here.
+-- The laws of answers and refusals, which callers cite.
+pub mod Laws

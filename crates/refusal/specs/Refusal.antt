@@ -59,10 +59,20 @@ abbrev pub position_of : Refusal → ℕ
 position_of (Refusal.Record fault position) = position
 position_of _ = 0
 
--- an answer, or the refusal that comes before it
-abbrev pub answered : {A : Type 0} → Option Refusal → A → Result A Refusal
+-- an answer, or the refusal or the fault that comes before it
+abbrev pub answered : {A E : Type 0} → Option E → A → Result A E
 answered (Some refusal) answer = Err refusal
 answered None answer = Ok answer
+
+-- "4 to 8 run record by record": what is wrong with the record at a position, or else what comes after it
+abbrev pub at_record : ℕ → Option Fault → Option Refusal → Option Refusal
+at_record position (Some fault) rest = Some (Refusal.Record fault position)
+at_record position None rest = rest
+
+-- what was found of the record at a position
+abbrev pub located : {A : Type 0} → ℕ → Result A Fault → Result A Refusal
+located position (Ok answer) = Ok answer
+located position (Err fault) = Err (Refusal.Record fault position)
 
 -- the number of a refusal, where there is one; 0 says that nothing is refused
 abbrev pub refused_number : Option Refusal → ℕ

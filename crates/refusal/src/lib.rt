@@ -2,7 +2,7 @@
 #![tactic(auto)]
 
 ghost use Rattle.std.specs.Prelude.{◌≡◌};
-ghost use Rattle.refusal.specs.Refusal.{fault_number, number_of, position_of};
+ghost use Rattle.refusal.specs.Refusal.{fault_number, number_of, position_of, located};
 
 /// What is wrong with a record of a sheet.
 #[derive(Clone, Copy, Debug, PartialEq, Eq)]
@@ -88,4 +88,11 @@ impl Refusal {
             _ => 0,
         }
     }
+}
+
+/// What was found of the record at a position.
+pub fn located<T>(found: Result<T, Fault>, position: usize) -> Result<T, Refusal>
+    ensures { result ≡ located position found }
+{
+    found.map_err(|fault| Refusal::Record { fault, position })
 }

@@ -1,36 +1,25 @@
 -- What the callers know of a record that is in order, of a sheet of the right size, and of a sheet that is read record by record.
-use Prim.Native.Nat.{ℕ, suc, ◌+◌, ◌-◌, ◌*◌, ◌%◌, ◌≤◌, ◌<◌}
-use mathlib.Core.Path.{◌≡◌, refl, ap, sym, ◌∙◌}
-use mathlib.Core.Bool.{false}
-use mathlib.Core.List.{List}
-use native.Mathlib.Omega.{arith}
+use Rattle.std.proofs.Common.{◌≡◌, ℕ, zero, suc, ◌+◌, ◌*◌, ◌%◌, ◌≤◌, ◌<◌, List, length, get_or, take, drop, replicate, false, None, refl, ap, ◌∙◌, arith}
 use borrow.Author.Tests.{ltb-false, leb-false, eqb-false}
-use lib.ListN.{length}
-use Rattle.lists.specs.Checks.{check, refuses}
+use Rattle.std.specs.Simd.{first_chunks}
+use Rattle.std.proofs.Math.Seq.{drop-drop}
+use Rattle.std.proofs.Math.Nat.{suc-mul, zero-mul}
 use Rattle.lists.specs.Limits.{member_limit, amount_limit}
-use Rattle.lists.proofs.Checks.{check_past, check-lt, check_nlt, neither}
+use Rattle.lists.proofs.Checks.{check_past, neither}
+use Rattle.lists.proofs.Sums.{get_or_zeros}
+use Rattle.refusal.proofs.Laws.{none_at-record}
 use Rattle.sheets.specs.Bytes.{record_at}
-use Rattle.sheets.specs.Members.{member_at, first_at, second_at, third_at, outside, missing, excessive, not_rising, entry_of, number_of}
-use Rattle.sheets.specs.Sheet.{refusal, no_refusal, missized, record_count, member_refusal_from, member_refusal}
-use Rattle.sheets.specs.declared.Entry.{Entry}
-use Rattle.sheets.specs.declared.Entry.TheVariants.{Outside, Missing, Excessive, NotRising, Figures}
-use Rattle.sheets.specs.declared.Refusal.{Refusal}
+use Rattle.sheets.specs.Members.{member_at, first_at, second_at, third_at, record_of, outside, missing, excessive, not_rising, member_fault}
+use Rattle.sheets.specs.Parts.{WithinLimits, AmountsFit}
+use Rattle.sheets.specs.Sheet.{missized, record_count, member_refusal_from}
 
 -- a record of a register or a shares sheet -------------------------------------
 
--- what the figures of a record in order are, and within which limits
-pub record InOrder (floor last : ℕ) (s : List ℕ) (member first second third : ℕ) : Type 0 where
-  pub member_is : member ≡ member_at s
-  pub first_is : first ≡ first_at s
-  pub second_is : second ≡ second_at s
-  pub third_is : third ≡ third_at s
-  pub member_least : 1 ≤ member
-  pub member_most : member ≤ member_limit
-  pub first_most : first ≤ amount_limit
-  pub second_least : floor ≤ second
-  pub second_most : second ≤ amount_limit
-  pub third_most : third ≤ amount_limit
-  pub rises : last < member
+-- within which limits a record in order is
+pub record InOrder (floor last : ℕ) (s : List ℕ) : Type 0 where
+  pub within : WithinLimits (record_of s)
+  pub second_least : floor ≤ second_at s
+  pub rises : last < member_at s
 
 inside : (s : List ℕ) → outside s ≡ false → (1 ≤ member_at s) × (member_at s ≤ member_limit)
 unfolding outside
@@ -38,54 +27,35 @@ inside s e =
     let m = neither _ _ (neither _ _ (neither _ _ (neither _ _ e).0).0).0 in
     (ltb-false _ _ m.0, ltb-false _ _ m.1)
 
-within : (floor : ℕ) (s : List ℕ) → excessive floor s ≡ false
+amounts_within : (floor : ℕ) (s : List ℕ) → excessive floor (record_of s) ≡ false
     → (first_at s ≤ amount_limit) × (second_at s ≤ amount_limit) × (third_at s ≤ amount_limit) × (floor ≤ second_at s)
 unfolding excessive
-within floor s e =
+amounts_within floor s e =
     let f = neither _ _ e in
     let t = neither _ _ f.0 in
     let s = neither _ _ t.0 in
     (ltb-false _ _ s.0, ltb-false _ _ s.1, ltb-false _ _ t.1, ltb-false _ _ f.1)
 
-pub entry-figures : (floor last : ℕ) (s : List ℕ) (m a b c : ℕ) → entry_of floor last s ≡ Figures m a b c → InOrder floor last s m a b c
-unfolding entry_of
-entry-figures floor last s m a b c e =
-    let o = check_past (outside s) _ _ (λ q. omega (arith, ap number_of q)) e in
-    let n = check_past (missing s) _ _ (λ q. omega (arith, ap number_of q)) o.1 in
-    let x = check_past (excessive floor s) _ _ (λ q. omega (arith, ap number_of q)) n.1 in
-    let r = check_past (not_rising last s) _ _ (λ q. omega (arith, ap number_of q)) x.1 in
-    let is : Figures (member_at s) (first_at s) (second_at s) (third_at s) ≡ Figures m a b c = r.1 in
-    let em : m ≡ member_at s = cc in
-    let ea : a ≡ first_at s = cc in
-    let eb : b ≡ second_at s = cc in
-    let ec : c ≡ third_at s = cc in
+pub in_order : (floor last : ℕ) (s : List ℕ) → member_fault floor last s ≡ None → InOrder floor last s
+unfolding member_fault
+in_order floor last s e =
+    let o = check_past (outside s) _ _ (λ q. grind arith) e in
+    let n = check_past (missing (record_of s)) _ _ (λ q. grind arith) o.1 in
+    let x = check_past (excessive floor (record_of s)) _ _ (λ q. grind arith) n.1 in
+    let r = check_past (not_rising last (record_of s)) _ _ (λ q. grind arith) x.1 in
     let i = inside s o.0 in
-    let w = within floor s x.0 in
-    let l : last < member_at s = leb-false _ _ r.0 in
+    let w = amounts_within floor s x.0 in
     record {
-      member_is = em;
-      first_is = ea;
-      second_is = eb;
-      third_is = ec;
-      member_least = omega arith;
-      member_most = omega arith;
-      first_most = omega arith;
-      second_least = omega arith;
-      second_most = omega arith;
-      third_most = omega arith;
-      rises = omega arith;
+      within = record { member_least = i.0; member_most = i.1; first_most = w.0; second_most = w.1; third_most = w.2 };
+      second_least = w.3;
+      rises = leb-false _ _ r.0;
     }
 
--- a record that is not in order has a number, said as the last arm of a `match` with an arm for `Figures` knows it
-abbrev pub NotFigures : Entry → Type 0
-NotFigures e = (m a b c : ℕ) → e ≡ Figures m a b c → ⊥
-
-pub member-refuses : (e : Entry) → NotFigures e → 0 < number_of e
-member-refuses Outside k = omega arith
-member-refuses Missing k = omega arith
-member-refuses Excessive k = omega arith
-member-refuses NotRising k = omega arith
-member-refuses (Figures m a b c) k = absurd (k m a b c refl)
+-- columns of no records
+pub amounts_none : AmountsFit (replicate member_limit 0) (replicate member_limit 0) (replicate member_limit 0)
+amounts_none =
+    let zeros : (k : ℕ) → get_or (replicate member_limit 0) k 0 ≤ amount_limit = λ k. omega (arith, get_or_zeros member_limit k) in
+    record { first_fits = zeros; second_fits = zeros; third_fits = zeros }
 
 -- the size of a sheet -----------------------------------------------------------
 
@@ -114,49 +84,22 @@ sized most sheet e =
 
 -- a sheet read record by record --------------------------------------------------
 
--- the reading as it begins
-pub member_begins : (floor : ℕ) (sheet : List ℕ) → member_refusal_from floor (record_count sheet - 0) sheet 0 0 ≡ member_refusal floor sheet
-unfolding member_refusal
-member_begins floor sheet = ap (λ (n : ℕ). member_refusal_from floor n sheet 0 0) (omega arith)
+-- the record that the code reads
+pub chunk_at : (w n i : ℕ) (xs d : List ℕ) → i < n → get_or (first_chunks w n xs) i d ≡ take w (drop (i * w) xs)
+chunk_at w zero i xs d h = absurd (omega arith)
+chunk_at w (suc n) zero xs d h = rw zero-mul refl
+chunk_at w (suc n) (suc i) xs d h =
+    let along : w + i * w ≡ suc i * w = simp suc-mul (omega arith) in
+    chunk_at w n i (drop w xs) d (omega arith) ∙ ap (take w) (drop-drop (i * w) w xs ∙ ap (λ (k : ℕ). drop k xs) along)
 
--- one record of it
-module _ (floor : ℕ) (sheet : List ℕ) (count i last : ℕ) (more : i < count) where
-  abbrev found : Entry
-  found = entry_of floor last (record_at sheet i)
-
-  abbrev rest : Refusal
-  rest = member_refusal_from floor (count - (i + 1)) sheet (i + 1) (member_at (record_at sheet i))
-
-  one : member_refusal_from floor (count - i) sheet i last ≡ check (refuses (number_of found)) (refusal (number_of found) (i + 1)) rest
+-- where none of n records from record i on is refused, record i is in order, and none of those after it is refused
+module _ (floor n : ℕ) (sheet : List ℕ) (i last : ℕ) (q : member_refusal_from floor (suc n) sheet i last ≡ None) where
+  both : (member_fault floor last (record_at sheet i) ≡ None) × (member_refusal_from floor n sheet (i + 1) (member_at (record_at sheet i)) ≡ None)
   unfolding member_refusal_from
-  one =
-      let left : count - i ≡ suc (count - (i + 1)) = omega arith in
-      ap (λ (n : ℕ). member_refusal_from floor n sheet i last) left
+  both = none_at-record (i + 1) _ _ q
 
-  pub member-refused_here : (e : Entry) → entry_of floor last (record_at sheet i) ≡ e → 0 < number_of e
-      → member_refusal_from floor (count - i) sheet i last ≡ refusal (number_of e) (i + 1)
-  member-refused_here e q h =
-      one
-      ∙ sym (check-lt _ _ 0 (number_of found) (rw q h) refl)
-      ∙ ap (λ (x : Entry). refusal (number_of x) (i + 1)) q
+  pub record_in-order : InOrder floor last (record_at sheet i)
+  record_in-order = in_order floor last (record_at sheet i) both.0
 
-  -- said of the number that a caller was given
-  pub member-refused_as : (e : Entry) (n : ℕ) → entry_of floor last (record_at sheet i) ≡ e → NotFigures e → n ≡ number_of e
-      → (0 < n) × (refusal n (i + 1) ≡ member_refusal_from floor (count - i) sheet i last)
-  member-refused_as e n q k h =
-      let p = member-refuses e k in
-      (omega arith, ap (λ (m : ℕ). refusal m (i + 1)) h ∙ sym (member-refused_here e q p))
-
-  pub member-passed_on : (m a b c : ℕ) → entry_of floor last (record_at sheet i) ≡ Figures m a b c
-      → member_refusal_from floor (count - i) sheet i last ≡ member_refusal_from floor (count - (i + 1)) sheet (i + 1) m
-  member-passed_on m a b c q =
-      one
-      ∙ sym (check_nlt _ _ 0 (number_of found) (omega (arith, ap number_of q)) refl)
-      ∙ ap (λ (n : ℕ). member_refusal_from floor (count - (i + 1)) sheet (i + 1) n) (sym (entry-figures _ _ _ _ _ _ _ q).member_is)
-
--- and its end
-pub member_ends : (floor : ℕ) (sheet : List ℕ) (count i last : ℕ) → count ≤ i → member_refusal_from floor (count - i) sheet i last ≡ no_refusal
-unfolding member_refusal_from
-member_ends floor sheet count i last h =
-    let none : count - i ≡ 0 = omega arith in
-    ap (λ (n : ℕ). member_refusal_from floor n sheet i last) none
+  pub rest-accepted : member_refusal_from floor n sheet (i + 1) (member_at (record_at sheet i)) ≡ None
+  rest-accepted = both.1

@@ -23,9 +23,9 @@ beyond_more n b m z p =
     simp (lt-ltb 0 b h, lt-ltb member_limit (n + m) (omega arith), or-true))
     (eq-zero-or-pos b)
 
-pub member_by-number : (s : List ℕ) → beyond 1 member_limit (le32 s 0) ≡ outside s
+pub member_by_number : (s : List ℕ) → beyond 1 member_limit (le32 s 0) ≡ outside s
 unfolding outside le32
-member_by-number s =
+member_by_number s =
     rw (
       beyond_more (byte s 0 + byte s 1 * 256 + byte s 2 * 65_536) (byte s 3) (byte s 3 * 16_777_216) (λ z. omega arith) (λ p. omega arith),
       beyond_more (byte s 0 + byte s 1 * 256) (byte s 2) (byte s 2 * 65_536) (λ z. omega arith) (λ p. omega arith),

@@ -1,10 +1,10 @@
 -- Document 01, "The opening register": "records of 16 bytes, no header, numbers little-endian".
-use Rattle.std.specs.Prelude.{ℕ, ◌+◌, ◌*◌, Bool, ◌||◌, List, eqb, ltb, get_or, drop}
+use Rattle.std.specs.Prelude.{ℕ, ◌+◌, ◌*◌, Bool, ◌||◌, List, eqb, ltb, get_or, take, drop}
 use Rattle.lists.specs.Limits.{missing_amount}
 
--- the bytes of a sheet from record i on, counted from 0: the first 16 of them are the record
+-- record i of a sheet, counted from 0
 abbrev pub record_at : List ℕ → ℕ → List ℕ
-record_at sheet i = drop (i * 16) sheet
+record_at sheet i = take 16 (drop (i * 16) sheet)
 
 abbrev pub byte : List ℕ → ℕ → ℕ
 byte s at = get_or s at 0

@@ -4,8 +4,9 @@
 use Rattle.std.specs.Prelude.{ℕ, zero, suc, ◌+◌, ◌-◌, true, false, List, set, replicate}
 use Rattle.lists.specs.Limits.{member_limit}
 use Rattle.sheets.specs.Bytes.{record_at}
-use Rattle.sheets.specs.Members.{member_at, first_at, second_at, third_at}
+use Rattle.sheets.specs.Members.{record_of}
 use Rattle.sheets.specs.Sheet.{record_count}
+use Rattle.sheets.specs.declared.Record.{Record}
 use Rattle.sheets.specs.declared.columns.Columns.{Columns}
 
 -- the columns of a sheet of no records
@@ -19,22 +20,19 @@ no_columns =
     }
 
 -- a member's three amounts, put at its place
-abbrev pub entered : Columns → ℕ → ℕ → ℕ → ℕ → Columns
-entered columns member first second third =
+abbrev pub entered : Columns → Record → Columns
+entered columns r =
     record {
-      present = set columns.present (member - 1) true;
-      first = set columns.first (member - 1) first;
-      second = set columns.second (member - 1) second;
-      third = set columns.third (member - 1) third;
+      present = set columns.present (r.member - 1) true;
+      first = set columns.first (r.member - 1) r.first;
+      second = set columns.second (r.member - 1) r.second;
+      third = set columns.third (r.member - 1) r.third;
     }
-
-abbrev pub entered_record : Columns → List ℕ → Columns
-entered_record columns s = entered columns (member_at s) (first_at s) (second_at s) (third_at s)
 
 -- the n records of a sheet from record i on
 unfoldable pub columns_from : ℕ → List ℕ → ℕ → Columns → Columns
 columns_from zero sheet i columns = columns
-columns_from (suc n) sheet i columns = columns_from n sheet (i + 1) (entered_record columns (record_at sheet i))
+columns_from (suc n) sheet i columns = columns_from n sheet (i + 1) (entered columns (record_of (record_at sheet i)))
 
 unfoldable pub columns_of : List ℕ → Columns
 columns_of sheet = columns_from (record_count sheet) sheet 0 no_columns

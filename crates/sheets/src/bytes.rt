@@ -1,54 +1,27 @@
-// Bytes of a sheet as numbers, and the tests on one number.
-// Tests are joined by `|` and `&`, as the definitions join them by `||` and `&&`: they do not branch, so the two are equal as they stand.
-ghost use Rattle.std.specs.Prelude.{◌≡◌, ◌+◌, ◌≤◌, ◌<◌, length};
-ghost use Rattle.sheets.specs.Bytes.{byte, le16, le32, absent_amount, beyond, nonzero};
+// Numbers of several bytes of a record, the lowest byte first.
+ghost use Rattle.std.specs.Prelude.{◌≡◌, ◌+◌, ◌≤◌};
+ghost use Rattle.sheets.specs.Bytes.{le16, le32, beyond};
 
-use lists::MISSING_AMOUNT;
-
-fn wide(x: u8) -> u64
-    ensures { (result ≡ x) × (result ≤ 255) }
+// One function for each size: `from_le_bytes` is a method of the number's type.
+#[tactic(auto, unfolding(crate::specs::Bytes::le16))]
+pub fn le16(bytes: &[u8; 16], at: usize) -> u16
+    requires { at + 2 ≤ 16 }
+    ensures { result ≡ le16 bytes.now at }
 {
-    x as u64
+    u16::from_le_bytes([bytes[at], bytes[at + 1]])
 }
 
-pub fn byte(s: &[u8], at: usize) -> u64
-    requires { at < length s.now }
-    ensures { (result ≡ byte s.now at) × (result ≤ 255) }
+#[tactic(auto, unfolding(crate::specs::Bytes::le32))]
+pub fn le32(bytes: &[u8; 16], at: usize) -> u32
+    requires { at + 4 ≤ 16 }
+    ensures { result ≡ le32 bytes.now at }
 {
-    wide(s[at])
+    u32::from_le_bytes([bytes[at], bytes[at + 1], bytes[at + 2], bytes[at + 3]])
 }
 
-pub fn le16(s: &[u8], at: usize) -> u64
-    requires { at + 2 ≤ length s.now }
-    ensures { (result ≡ le16 s.now at) × (result ≤ 65_535) }
-{
-    byte(s, at) + byte(s, at + 1) * 256
-}
-
-pub fn le32(s: &[u8], at: usize) -> u64
-    requires { at + 4 ≤ length s.now }
-    ensures { (result ≡ le32 s.now at) × (result ≤ 4_294_967_295) }
-{
-    byte(s, at) + byte(s, at + 1) * 256 + byte(s, at + 2) * 65_536 + byte(s, at + 3) * 16_777_216
-}
-
-pub fn absent(amount: u64) -> bool
-    ensures { result ≡ absent_amount amount }
-{
-    amount == MISSING_AMOUNT
-}
-
-// Whether `n` is none of `low` to `high`.
-pub fn beyond(low: u64, high: u64, n: u64) -> bool
+// Whether a number is none of `low` to `high`.
+pub fn beyond(low: u32, high: u32, n: u32) -> bool
     ensures { result ≡ beyond low high n }
 {
-    (n < low) | (high < n)
-}
-
-// Whether the byte at a place that is to be zero is not.
-pub fn nonzero(s: &[u8], at: usize) -> bool
-    requires { at < length s.now }
-    ensures { result ≡ nonzero (byte s.now at) }
-{
-    0 < s[at]
+    !(low..=high).contains(&n)
 }

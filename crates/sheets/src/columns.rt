@@ -1,12 +1,16 @@
 // A register or a shares sheet, read into columns by member number: document 01 gives both the same records, and each its own meaning.
 ghost use Rattle.std.specs.Prelude.{◌≡◌};
-ghost use Rattle.sheets.specs.Columns.{no_columns};
-ghost use Rattle.sheets.specs.Parts.{MembersRead};
+ghost use Rattle.refusal.specs.Refusal.{answered};
+ghost use Rattle.sheets.specs.Columns.{no_columns, entered, columns_of};
+ghost use Rattle.sheets.specs.Sheet.{member_refusal};
+ghost use Rattle.sheets.specs.Parts.{WithinLimits};
 
-use crate::members::{entry, number_of};
-use crate::{Entry, Refusal};
+use crate::Record;
+use crate::members::read_record;
+use refusal::{Refusal, located};
+use std::marker::Model;
 
-// A member sheet by member number, member 1 first; 0 where the sheet has no such member. An amount is at most 400,000,000, and is held in 32 bits.
+// A member sheet by member number, member 1 first; 0 where the sheet has no such member. Every amount is at most 400,000,000.
 #[derive(Clone, Copy)]
 pub struct Columns {
     pub present: [bool; 64],
@@ -15,10 +19,18 @@ pub struct Columns {
     pub third: [u32; 64],
 }
 
-#[derive(Clone, Copy)]
-pub struct Reading {
-    pub refusal: Refusal,
-    pub columns: Columns,
+impl Model for Columns {
+    ghost use Rattle.sheets.specs.Lists.{ColumnLists};
+
+    ghost Value = { ColumnLists };
+
+    ghost use Rattle.sheets.specs.Parts.{AmountsFit};
+
+    ghost view = { λ c. record { present = c.present; first = c.first; second = c.second; third = c.third } };
+
+    ghost inverse = { λ v. record { present = v.present; first = v.first; second = v.second; third = v.third } };
+
+    ghost invariant = { λ c. AmountsFit c.first c.second c.third };
 }
 
 // The columns of a sheet of no records.
@@ -27,50 +39,37 @@ pub fn no_columns() -> Columns
 {
     Columns {
         present: [false; 64],
-        first: [0u32; 64],
-        second: [0u32; 64],
-        third: [0u32; 64],
+        first: [0; 64],
+        second: [0; 64],
+        third: [0; 64],
+    }
+}
+
+impl Columns {
+    // A member's three amounts, put at its place.
+    fn enter(&mut self, found: Record)
+        requires { WithinLimits found }
+        ensures { self.new ≡ entered self.old found }
+    {
+        let place = usize::from(found.member - 1);
+        self.present[place] = true;
+        self.first[place] = found.first;
+        self.second[place] = found.second;
+        self.third[place] = found.third;
     }
 }
 
 // 4 to 7 record by record, and the columns of a sheet in order. `floor` is the least second amount.
-pub fn read(floor: u64, sheet: &[u8]) -> Reading
-    ensures { MembersRead floor sheet.now result }
+pub fn read(floor: u64, sheet: &[u8]) -> Result<Columns, Refusal>
+    ensures { result ≡ answered (member_refusal floor sheet.now) (columns_of sheet.now) }
 {
-    let count = sheet.len() / 16;
+    let (records, _) = sheet.as_chunks::<16>();
     let mut columns = no_columns();
-    let mut last: u8 = 0;
-    let mut i = 0;
-    while i < count {
-        let at = i * 16;
-        let found = entry(floor, last, &sheet[at..]);
-        let Entry::Figures {
-            member,
-            first,
-            second,
-            third,
-        } = found
-        else {
-            let number = number_of(found);
-            let position = i + 1;
-            return Reading {
-                refusal: Refusal { number, position },
-                columns,
-            };
-        };
-        let place = (member - 1) as usize;
-        columns.present[place] = true;
-        columns.first[place] = first as u32;
-        columns.second[place] = second as u32;
-        columns.third[place] = third as u32;
-        last = member;
-        i += 1;
+    let mut last = 0;
+    for (i, bytes) in records.iter().enumerate() {
+        let found = located(read_record(floor, last, bytes), i + 1)?;
+        columns.enter(found);
+        last = found.member;
     }
-    Reading {
-        refusal: Refusal {
-            number: 0,
-            position: 0,
-        },
-        columns,
-    }
+    Ok(columns)
 }

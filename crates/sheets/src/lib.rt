@@ -9,33 +9,21 @@ ghost use Rattle.std.specs.Prelude.{◌≡◌, ◌≤◌};
 ghost use Rattle.lists.specs.Limits.{stress_limit};
 ghost use Rattle.sheets.specs.Sheet.{missized};
 
-// A refusal: document 01's number, and the record's position counted from 1 (0 where no record is meant). Number 0 refuses nothing.
-#[derive(Clone, Copy)]
-pub struct Refusal {
-    pub number: u8,
-    pub position: usize,
-}
-
-// What a record of a register or a shares sheet is found to be.
-#[derive(Clone, Copy)]
-pub enum Entry {
-    Outside,
-    Missing,
-    Excessive,
-    NotRising,
-    Figures {
-        member: u8,
-        first: u64,
-        second: u64,
-        third: u64,
-    },
+// A record of a register or a shares sheet.
+#[derive(Clone, Copy, Debug, PartialEq, Eq)]
+pub struct Record {
+    pub member: u8,
+    pub first: u32,
+    pub second: u32,
+    pub third: u32,
 }
 
 // 1. "A sheet is empty, overlong or not whole records.": `most` is how many records the sheet may have.
+#[tactic(auto, unfolding(crate::specs::Sheet::missized))]
 pub fn missized(most: usize, sheet: &[u8]) -> bool
     requires { most ≤ stress_limit }
     ensures { result ≡ missized most sheet.now }
 {
     let size = sheet.len();
-    (size == 0) | (most * 16 < size) | (0 < size % 16)
+    size == 0 || most * 16 < size || size % 16 != 0
 }

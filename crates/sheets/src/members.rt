@@ -1,77 +1,65 @@
 // A record of a register or a shares sheet: one function for each of document 01's refusals 4 to 6, and the record by them.
-ghost use Rattle.std.specs.Prelude.{◌≡◌, ◌≤◌, length};
-ghost use Rattle.sheets.specs.Members.{outside, missing, excessive, entry_of, number_of};
+ghost use Rattle.std.specs.Prelude.{◌≡◌};
+ghost use Rattle.refusal.specs.Refusal.{answered};
+ghost use Rattle.sheets.specs.Members.{outside, missing, excessive, member_fault, record_of};
 
-use crate::Entry;
-use crate::bytes::{absent, beyond, le32};
+use crate::Record;
+use crate::bytes::{beyond, le32};
 use lists::AMOUNT_LIMIT;
+use refusal::Fault;
 
-const MEMBERS: u64 = lists::MEMBER_LIMIT as u64;
+const MEMBERS: u32 = lists::MEMBER_LIMIT as u32;
 
-fn outside(s: &[u8]) -> bool
-    requires { 16 ≤ length s.now }
-    ensures { result ≡ outside s.now }
+const MISSING: u32 = lists::MISSING_AMOUNT as u32;
+
+// The member and the three zero bytes after it are one number here.
+#[tactic(auto, using(crate::proofs::Tests::member_by_number))]
+fn outside(bytes: &[u8; 16]) -> bool
+    ensures { result ≡ outside bytes.now }
 {
-    beyond(1, MEMBERS, le32(s, 0))
+    beyond(1, MEMBERS, le32(bytes, 0))
 }
 
-fn missing(s: &[u8]) -> bool
-    requires { 16 ≤ length s.now }
-    ensures { result ≡ missing s.now }
+#[tactic(auto, unfolding(crate::specs::Members::missing))]
+fn missing(found: Record) -> bool
+    ensures { result ≡ missing found }
 {
-    absent(le32(s, 4)) | absent(le32(s, 8)) | absent(le32(s, 12))
+    [found.first, found.second, found.third].contains(&MISSING)
 }
 
-fn excessive(floor: u64, s: &[u8]) -> bool
-    requires { 16 ≤ length s.now }
-    ensures { result ≡ excessive floor s.now }
+#[tactic(auto, unfolding(crate::specs::Members::excessive))]
+fn excessive(floor: u64, found: Record) -> bool
+    ensures { result ≡ excessive floor found }
 {
-    let second = le32(s, 8);
-    (AMOUNT_LIMIT < le32(s, 4))
-        | (AMOUNT_LIMIT < second)
-        | (AMOUNT_LIMIT < le32(s, 12))
-        | (second < floor)
+    let second = u64::from(found.second);
+    AMOUNT_LIMIT < u64::from(found.first)
+        || AMOUNT_LIMIT < second
+        || AMOUNT_LIMIT < u64::from(found.third)
+        || second < floor
 }
 
-// The record at the start of `s`: `floor` is the least second amount, `last` the member of the record before, 0 where there is none.
-pub fn entry(floor: u64, last: u8, s: &[u8]) -> Entry
-    requires { 16 ≤ length s.now }
-    ensures { result ≡ entry_of floor last s.now }
+// The record of these bytes: `floor` is the least second amount, `last` the member of the record before, 0 where there is none.
+#[tactic(auto, unfolding(lists::specs::Checks::check, crate::specs::Members::member_fault))]
+pub fn read_record(floor: u64, last: u8, bytes: &[u8; 16]) -> Result<Record, Fault>
+    ensures { result ≡ answered (member_fault floor last bytes.now) (record_of bytes.now) }
 {
-    if outside(s) {
-        return Entry::Outside;
+    if outside(bytes) {
+        return Err(Fault::Outside);
     }
-    if missing(s) {
-        return Entry::Missing;
+    let found = Record {
+        member: bytes[0],
+        first: le32(bytes, 4),
+        second: le32(bytes, 8),
+        third: le32(bytes, 12),
+    };
+    if missing(found) {
+        return Err(Fault::Missing);
     }
-    if excessive(floor, s) {
-        return Entry::Excessive;
+    if excessive(floor, found) {
+        return Err(Fault::Excessive);
     }
-    if s[0] <= last {
-        return Entry::NotRising;
+    if found.member <= last {
+        return Err(Fault::NotRising);
     }
-    Entry::Figures {
-        member: s[0],
-        first: le32(s, 4),
-        second: le32(s, 8),
-        third: le32(s, 12),
-    }
-}
-
-// Document 01's number of a refusal, 0 for a record in order.
-pub fn number_of(e: Entry) -> u8
-    ensures { result ≡ number_of e }
-{
-    match e {
-        Entry::Outside => 4,
-        Entry::Missing => 5,
-        Entry::Excessive => 6,
-        Entry::NotRising => 7,
-        Entry::Figures {
-            member: _,
-            first: _,
-            second: _,
-            third: _,
-        } => 0,
-    }
+    Ok(found)
 }

@@ -6,6 +6,7 @@ ghost use Rattle.split.specs.Split.{share_of, split_of, exceeds};
 ghost use Rattle.split.specs.Parts.{Splits, product_limit};
 
 // One weight's share of what is left of the sum: a turn of the split. A weight of 0 takes nothing, and costs no division.
+#[tactic(auto, unfolding(crate::specs::Split::share_of))]
 pub fn share(left: u64, weight: u64, rest: u64) -> u64
     requires { (weight * left ≤ product_limit) × (weight ≤ rest) }
     ensures { result ≡ share_of left weight rest }
@@ -21,20 +22,17 @@ pub fn share(left: u64, weight: u64, rest: u64) -> u64
 pub fn split(sum: u64, whole: u64, weights: &[u64], shares: &mut [u64]) -> bool
     requires { Splits sum whole weights.now shares.old }
     ensures shares_after { shares.new ≡ split_of sum weights.now }
-    ensures value { result ≡ exceeds (split_of sum weights.now) weights.now }
+    ensures over_is { result ≡ exceeds (split_of sum weights.now) weights.now }
 {
     let mut left = sum;
     let mut rest = whole;
     let mut over = false;
-    let mut i = 0;
-    while i < weights.len() {
-        let weight = weights[i];
+    for (i, &weight) in weights.iter().enumerate() {
         let part = share(left, weight, rest);
         shares[i] = part;
-        over = over | (weight < part);
+        over |= weight < part;
         left -= part;
         rest -= weight;
-        i += 1;
     }
     over
 }

@@ -1,6 +1,6 @@
 -- `split::split` meets its contract. The loop's invariant: the shares so far, with the split of what is left over the weights that are left
 -- behind them, are the split of the whole.
-use Prim.Native.Nat.{◌-◌, ◌≤◌}
+use Prim.Native.Nat.{◌≤◌}
 use mathlib.Core.Path.{◌≡◌}
 use mathlib.Core.Bool.{◌||◌}
 use mathlib.Core.List.{◌++◌}
@@ -14,6 +14,3 @@ invariant-loop-i l =
     (l.i ≤ length l.weights) × (length l.shares ≡ length l.weights) × (l.left ≤ l.sum) × (l.rest ≡ total (drop l.i l.weights))
     × (take l.i l.shares ++ split_of l.left (drop l.i l.weights) ≡ split_of l.sum l.weights)
     × ((l.over || exceeds (split_of l.left (drop l.i l.weights)) (drop l.i l.weights)) ≡ exceeds (split_of l.sum l.weights) l.weights)
-
-abbrev pub decreases-loop-i : goal.decreases-loop-i
-decreases-loop-i l = length l.weights - l.i

@@ -10,7 +10,7 @@ use native.Mathlib.Omega.{arith}
 use lib.Dec.{eqb, ltb}
 use lib.ListN.{length, get_or, drop, set, replicate, drop_of_length-le, length-replicate, length-map}
 use borrow.Author.Tests.{eq-eqb, ne_eqb, lt-ltb, le-ltb}
-use Rattle.lists.specs.Limits.{rank_limit, amount_limit}
+use Rattle.lists.specs.Limits.{member_limit, rank_limit, amount_limit, allocation_limit}
 use Rattle.lists.specs.Sums.{total, plus}
 use Rattle.lists.proofs.Places.{by_order, raised}
 use Rattle.lists.proofs.Sums.{zeros, all_zeros, total_zeros, get_or_zeros, total-plus, plus_assoc, plus_none, none-plus, length-keep, keep-le, cond-le, keep-map_step}
@@ -18,11 +18,9 @@ use Rattle.split.specs.Parts.{Splits}
 use Rattle.split.specs.Split.{split_of, exceeds}
 use Rattle.split.proofs.Laws.{length-split, total_within, total_of-none, split-within, split_whole, exceeds-none, splits_as}
 use Rattle.ranks.specs.Ranks.{at_rank, rank_gives, charges_from, charges_of}
-use Rattle.ranks.specs.Parts.{Weighed, Totals, Next, Marginal, Shared, above_rank}
+use Rattle.ranks.specs.Parts.{Weighed, Totals, Passed, Marginal, Shared, above_rank}
+use Rattle.ranks.specs.declared.Margin.{Margin}
 use Rattle.ranks.proofs.Laws.{length_at, length-shares, length_from, total_from}
-
-pub matched : (ws rs : List ℕ) → Weighed ws rs → length rs ≡ length ws
-matched ws rs w = w.as_many ∙ sym w.long
 
 -- the totals by rank ---------------------------------------------------------------
 
@@ -60,8 +58,7 @@ adding_done ts ws rs i h (t, m) =
 
 -- the next rank ------------------------------------------------------------------------
 
-pub passed_more : (ts : List ℕ) (at from : ℕ) → get_or ts at 0 ≤ 0 → ((p : ℕ) → at < p → p ≤ from → get_or ts p 0 ≡ 0)
-    → (p : ℕ) → at - 1 < p → p ≤ from → get_or ts p 0 ≡ 0
+pub passed_more : (ts : List ℕ) (at from : ℕ) → get_or ts at 0 ≤ 0 → Passed ts at from → Passed ts (at - 1) from
 passed_more ts at from z h p a b =
     ⊎_elim
     (λ e. ap (λ (k : ℕ). get_or ts k 0) (sym e) ∙ omega arith)
@@ -70,14 +67,17 @@ passed_more ts at from z h p a b =
 
 -- the marginal rank's split ----------------------------------------------------------
 
-pub shares_asked : (rank part whole : ℕ) (ws rs tied charges : List ℕ) → Weighed ws rs → Shared part whole (at_rank rank ws rs) charges → 0 < part
-    → tied ≡ at_rank rank ws rs → Splits part whole tied charges
-shares_asked rank part whole ws rs tied charges w s p e =
-    let l : length (at_rank rank ws rs) ≡ length ws = length_at rank ws rs (matched ws rs w) in
-    splits_as part whole tied (at_rank rank ws rs) charges e s.part_fits (s.whole_is p)
-    (λ k. omega (arith, keep-le (map (eqb rank) rs) ws k, w.weights_fit k))
-    (l ∙ w.long)
-    s.long
+pub shares_asked : (margin : Margin) (ws rs tied charges : List ℕ) → Weighed ws rs → Shared margin (at_rank margin.rank ws rs) charges → 0 < margin.part
+    → length ws ≡ member_limit → length rs ≡ member_limit → length charges ≡ member_limit → tied ≡ at_rank margin.rank ws rs
+    → Splits margin.part margin.whole tied charges
+shares_asked margin ws rs tied charges w s p m n k e =
+    splits_as margin.part margin.whole tied (at_rank margin.rank ws rs) charges e s.part_fits (s.whole_is p)
+    (λ k. omega (arith, keep-le (map (eqb margin.rank) rs) ws k, w.weights_fit k))
+    (length_at margin.rank ws rs (omega arith) ∙ m)
+    k
+
+pub zeros_fit : (n k : ℕ) → get_or (replicate n 0) k 0 ≤ allocation_limit
+zeros_fit n k = omega (arith, get_or_zeros n k)
 
 -- where a rank gives nothing, its shares are all 0
 pub unshared : (part : ℕ) (tied charges : List ℕ) → part ≡ 0 → length charges ≡ length tied → total charges ≡ 0
@@ -163,9 +163,10 @@ module _ (sum : ℕ) (ws rs : List ℕ) where
       (λ b. going_skip q n l (omega arith) (λ p x y. z p x (omega arith)) (rw sub-zero at (going_down q l 0 (sym (z (suc q) b (omega arith))) zero-le g)))
       (eq-or-lt_of_le a)
 
-  pub going_next : (ts : List ℕ) (q n l : ℕ) → q ≤ rank_limit → Totals ts ws rs → Next ts q n → Going sum ws rs q l → Going sum ws rs n l
-  going_next ts q n l h t x g =
-      going_skip q n l x.at_most (λ p a b. sym (t.each p (omega arith) (omega arith)) ∙ x.passed p a b) g
+  -- the ranks above the next are passed, and with none next all are
+  pub going_next : (ts : List ℕ) (q n l : ℕ) → q ≤ rank_limit → n ≤ q → Totals ts ws rs → Passed ts n q → Going sum ws rs q l → Going sum ws rs n l
+  going_next ts q n l h m t x g =
+      going_skip q n l m (λ p a b. sym (t.each p (omega arith) (omega arith)) ∙ x p a b) g
 
   module _ (same : length rs ≡ length ws) where
     pub going_start : ((k : ℕ) → get_or rs k 0 ≤ rank_limit) → Going sum ws rs rank_limit sum
@@ -176,23 +177,23 @@ module _ (sum : ℕ) (ws rs : List ℕ) where
           given = omega (arith, above-none ws rs h);
         }
 
-    pub going-part : (q l t : ℕ) → 0 < q → t ≡ total (at_rank q ws rs) → l < t → Going sum ws rs q l → Marginal sum ws rs q l t sum
+    pub going-part : (q l t : ℕ) → 0 < q → t ≡ total (at_rank q ws rs) → l < t → Going sum ws rs q l → Marginal sum ws rs (record { rank = q; part = l; whole = t; total = sum })
     going-part zero l t p e h g = absurd (omega arith)
     going-part (suc q) l t p e h g =
         let c : plus (above_rank (suc q) ws rs) (split_of l (at_rank (suc q) ws rs)) ≡ charges_of sum ws rs = cc (from-part ws rs q l same (omega arith), g.charges) in
         record {
           charges = c;
-          charged_is = omega (arith, ap total c, total-plus (above_rank (suc q) ws rs) (split_of l (at_rank (suc q) ws rs)), total_within l (at_rank (suc q) ws rs) (omega arith), g.given);
+          total_is = omega (arith, ap total c, total-plus (above_rank (suc q) ws rs) (split_of l (at_rank (suc q) ws rs)), total_within l (at_rank (suc q) ws rs) (omega arith), g.given);
           whole_is = λ x. e;
           part_fits = omega (arith, g.given);
           part_within = omega arith;
           above_is = omega (arith, g.given);
-          charged_least = omega (arith, g.given);
+          total_least = omega (arith, g.given);
         }
 
-    pub going_done : (q l : ℕ) → q ≤ 0 → Going sum ws rs q l → Marginal sum ws rs 0 0 0 (sum - l)
+    pub going_done : (l : ℕ) → Going sum ws rs 0 l → Marginal sum ws rs (record { rank = 0; part = 0; whole = 0; total = sum - l })
     unfolding charges_from
-    going_done zero l z g =
+    going_done l g =
         let a : List ℕ = above_rank 0 ws rs in
         let s : List ℕ = split_of 0 (at_rank 0 ws rs) in
         let n : length a ≡ length ws = length_above 0 ws rs same in
@@ -201,11 +202,10 @@ module _ (sum : ℕ) (ws rs : List ℕ) where
         let c : a ≡ charges_of sum ws rs = sym r ∙ g.charges in
         record {
           charges = p ∙ c;
-          charged_is = omega (arith, ap total c, g.given);
+          total_is = omega (arith, ap total c, g.given);
           whole_is = λ x. omega arith;
           part_fits = zero-le;
           part_within = zero-le;
           above_is = omega (arith, g.given);
-          charged_least = zero-le;
+          total_least = zero-le;
         }
-    going_done (suc q) l z g = absurd (omega arith)

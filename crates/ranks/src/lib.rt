@@ -4,12 +4,12 @@
 // charged whole or not at all costs a division.
 #![tactic(auto)]
 
-ghost use Rattle.std.specs.Prelude.{◌≡◌, cond, ℕ, ◌≤◌, ◌<◌, eqb, ltb, length, get_or};
+ghost use Rattle.std.specs.Prelude.{◌≡◌, ℕ, Bool, ◌≤◌, ◌-◌, length, get_or, MatchOption};
 ghost use Rattle.lists.specs.Limits.{member_limit, rank_limit, allocation_limit};
 ghost use Rattle.lists.specs.Sums.{total, plus};
 ghost use Rattle.split.specs.Split.{split_of, exceeds};
 ghost use Rattle.ranks.specs.Ranks.{at_rank, charges_of};
-ghost use Rattle.ranks.specs.Parts.{Weighed, Totals, Next, Marginal, Shared, above_rank};
+ghost use Rattle.ranks.specs.Parts.{Weighed, Totals, Passed, Next, Marginal, Shared, Answers, chosen_by, above_rank};
 
 use lists::RANK_LIMIT;
 
@@ -23,8 +23,19 @@ pub struct Charged {
     pub over: bool,
 }
 
-// The marginal rank (0: none), what it gives, all that it has, and the total of all the charges.
+// Each member's weight and rank. Rank 0 is none: nobody of it is charged.
 #[derive(Drop)]
+struct Ranked<'a> {
+    weights: &'a [u32; 64],
+    ranks: &'a [u8; 64],
+    ghost weighed: { Weighed weights.now ranks.now },
+    ghost long: { length weights.now ≡ member_limit },
+    ghost as_many: { length ranks.now ≡ member_limit },
+}
+
+// The ranks above the marginal one are charged whole, it gives `part` of the `whole` that it has, and those below it give nothing: `total`
+// together. Where every rank is charged whole, all are above rank 0, which has nobody and gives nothing.
+#[derive(Clone, Copy)]
 struct Margin {
     rank: u8,
     part: u64,
@@ -32,133 +43,117 @@ struct Margin {
     total: u64,
 }
 
-// The weights added up by rank. What has no rank, 0, adds to place 0, which nobody reads.
-fn rank_totals(weights: &[u32; 64], ranks: &[u8]) -> [u64; RANKS]
-    requires { Weighed weights.now ranks.now }
-    ensures { Totals result weights.now ranks.now }
-{
-    let mut totals = [0u64; RANKS];
-    for i in 0..64 {
-        let rank = ranks[i] as usize;
-        totals[rank] += weights[i] as u64;
-    }
-    totals
-}
-
-// The highest rank, `from` at most, whose total is above 0; 0 where there is none.
-fn next_rank(totals: &[u64; RANKS], from: u8) -> u8
+// The highest rank, `from` at most, whose total is above 0.
+fn next_rank(totals: &[u64; RANKS], from: u8) -> Option<u8>
     requires { from ≤ rank_limit }
-    ensures { Next totals.now from result }
+    ensures { MatchOption result (Passed totals.now 0 from) (Next totals.now from) }
 {
-    let mut at = from;
-    let next = loop {
-        if at == 0 {
-            break 0;
+    let mut rank = from;
+    loop {
+        if rank == 0 {
+            break None;
         }
-        let place = at as usize;
-        if totals[place] > 0 {
-            break at;
+        if totals[usize::from(rank)] > 0 {
+            break Some(rank);
         }
-        at -= 1;
-    };
-    next
+        rank -= 1;
+    }
 }
 
-// Ranks are charged whole from the highest down, while enough is left. The first with more than is left is the marginal one.
-fn marginal(sum: u64, weights: &[u32; 64], ranks: &[u8]) -> Margin
-    requires { Weighed weights.now ranks.now }
-    ensures { Marginal sum weights.now ranks.now result.rank result.part result.whole result.total }
-{
-    let totals = rank_totals(weights, ranks);
-    let mut left = sum;
-    let mut rank = next_rank(&totals, RANK_LIMIT);
-    while rank > 0 {
-        let place = rank as usize;
-        let whole = totals[place];
-        if left < whole {
-            return Margin {
-                rank,
-                part: left,
-                whole,
-                total: sum,
+impl Ranked<'_> {
+    // The weights added up by rank. What has no rank, 0, adds to place 0, which nobody reads.
+    fn totals(&self) -> [u64; RANKS]
+        ensures { Totals result self.now.weights.now self.now.ranks.now }
+    {
+        let weights = self.weights;
+        let ranks = self.ranks;
+        let mut totals = [0u64; RANKS];
+        for (&weight, &rank) in weights.iter().zip(ranks) {
+            totals[usize::from(rank)] += u64::from(weight);
+        }
+        totals
+    }
+
+    // Ranks are charged whole from the highest down, while enough is left. The first with more than is left is the marginal one.
+    fn margin(&self, sum: u64) -> Margin
+        ensures { Marginal sum self.now.weights.now self.now.ranks.now result }
+    {
+        let totals = self.totals();
+        let mut left = sum;
+        let mut from = RANK_LIMIT;
+        while let Some(rank) = next_rank(&totals, from) {
+            let whole = totals[usize::from(rank)];
+            if left < whole {
+                return Margin {
+                    rank,
+                    part: left,
+                    whole,
+                    total: sum,
+                };
+            }
+            left -= whole;
+            from = rank - 1;
+        }
+        Margin {
+            rank: 0,
+            part: 0,
+            whole: 0,
+            total: sum - left,
+        }
+    }
+
+    // The weights of the ranks that are chosen, added to the charges.
+    fn add_chosen<F: Fn(u8) -> bool>(&self, chosen: F, charges: &mut [u64; 64])
+        requires callable { F.IsAlwaysCallable chosen }
+        requires charges_fit { (k : ℕ) → get_or charges.old k 0 ≤ allocation_limit }
+        ensures { (test : ℕ → Bool) → Answers (F.post chosen) test
+            → charges.new ≡ plus (chosen_by test self.now.weights.now self.now.ranks.now) charges.old }
+    {
+        let ranks = self.ranks;
+        for (i, &rank) in ranks.iter().enumerate() {
+            charges[i] += if chosen(rank) {
+                u64::from(self.weights[i])
+            } else {
+                0
             };
         }
-        left -= whole;
-        rank = next_rank(&totals, rank - 1);
     }
-    Margin {
-        rank: 0,
-        part: 0,
-        whole: 0,
-        total: sum - left,
+
+    // The weights of one rank, and 0 for the others.
+    fn weights_at(&self, rank: u8) -> [u64; 64]
+        ensures { result ≡ at_rank rank self.now.weights.now self.now.ranks.now }
+    {
+        let mut tied = [0u64; 64];
+        self.add_chosen(|each| rank == each, &mut tied);
+        tied
     }
 }
 
-// A member's weight where it is of the rank, and else 0.
-fn weight_at(rank: u8, byte: u8, weight: u32) -> u64
-    ensures { result ≡ cond (eqb rank byte) weight 0 }
-{
-    if rank == byte {
-        return weight as u64;
+impl Margin {
+    // What the rank gives, shared over its members' weights: the charges, so far all 0, become its shares. The answer is whether a share comes
+    // out above its weight. Where the rank gives nothing, nothing is split.
+    fn share(self, ranked: &Ranked, charges: &mut [u64; 64]) -> bool
+        requires { Shared self (at_rank self.rank ranked.now.weights.now ranked.now.ranks.now) charges.old }
+        ensures charges_after { charges.new ≡ split_of self.part (at_rank self.rank ranked.now.weights.now ranked.now.ranks.now) }
+        ensures over_is { let tied = at_rank self.rank ranked.now.weights.now ranked.now.ranks.now in result ≡ exceeds (split_of self.part tied) tied }
+    {
+        if self.part == 0 {
+            return false;
+        }
+        let tied = ranked.weights_at(self.rank);
+        split::split(self.part, self.whole, &tied, charges)
     }
-    0
-}
 
-// The weights of one rank, and 0 for the others.
-fn weights_at(rank: u8, weights: &[u32; 64], ranks: &[u8]) -> [u64; 64]
-    requires { Weighed weights.now ranks.now }
-    ensures { result ≡ at_rank rank weights.now ranks.now }
-{
-    let mut tied = [0u64; 64];
-    for i in 0..64 {
-        tied[i] = weight_at(rank, ranks[i], weights[i]);
-    }
-    tied
-}
-
-// What the marginal rank gives, shared over its members' weights: the charges, so far all 0, become its shares. The answer is whether a share
-// comes out above its weight. Where the rank gives nothing, nothing is split.
-fn share_marginal(
-    rank: u8,
-    part: u64,
-    whole: u64,
-    weights: &[u32; 64],
-    ranks: &[u8],
-    charges: &mut [u64; 64],
-) -> bool
-    requires { Weighed weights.now ranks.now × Shared part whole (at_rank rank weights.now ranks.now) charges.old }
-    ensures charges_after { charges.new ≡ split_of part (at_rank rank weights.now ranks.now) }
-    ensures value { result ≡ exceeds (split_of part (at_rank rank weights.now ranks.now)) (at_rank rank weights.now ranks.now) }
-{
-    if part == 0 {
-        return false;
-    }
-    let tied = weights_at(rank, weights, ranks);
-    split::split(part, whole, &tied, charges)
-}
-
-// A member's weight where its rank is above, and else 0.
-fn weight_above(rank: u8, byte: u8, weight: u32) -> u64
-    ensures { result ≡ cond (ltb rank byte) weight 0 }
-{
-    if rank < byte {
-        return weight as u64;
-    }
-    0
-}
-
-// The ranks above are charged whole: their weights, `above` together, are added to the charges. Where they have nothing, nothing is added.
-fn charge_above(rank: u8, above: u64, weights: &[u32; 64], ranks: &[u8], charges: &mut [u64; 64])
-    requires weighed { Weighed weights.now ranks.now × (above ≡ total (above_rank rank weights.now ranks.now)) }
-    requires charges_len { (length charges.old ≡ member_limit) × ((k : ℕ) → get_or charges.old k 0 ≤ allocation_limit) }
-    ensures { charges.new ≡ plus (above_rank rank weights.now ranks.now) charges.old }
-{
-    if above == 0 {
-        return;
-    }
-    for i in 0..64 {
-        let whole = weight_above(rank, ranks[i], weights[i]);
-        charges[i] += whole;
+    // The ranks above are charged whole: their weights are added to the charges. Where they have nothing, nothing is added.
+    fn charge_above(self, ranked: &Ranked, charges: &mut [u64; 64])
+        requires above_is { self.total - self.part ≡ total (above_rank self.rank ranked.now.weights.now ranked.now.ranks.now) }
+        requires charges_fit { (k : ℕ) → get_or charges.old k 0 ≤ allocation_limit }
+        ensures { charges.new ≡ plus (above_rank self.rank ranked.now.weights.now ranked.now.ranks.now) charges.old }
+    {
+        if self.total == self.part {
+            return;
+        }
+        ranked.add_chosen(|rank| rank > self.rank, charges);
     }
 }
 
@@ -167,13 +162,15 @@ fn charge_above(rank: u8, above: u64, weights: &[u32; 64], ranks: &[u8], charges
 pub fn charge_by_rank(
     sum: u64,
     weights: &[u32; 64],
-    ranks: &[u8],
+    ranks: &[u8; 64],
     charges: &mut [u64; 64],
 ) -> Charged
-    requires { (sum ≤ allocation_limit) × Weighed weights.now ranks.now × (length charges.old ≡ member_limit) × (total charges.old ≡ 0) }
+    requires moderate { sum ≤ allocation_limit }
+    requires weighed { Weighed weights.now ranks.now }
+    requires uncharged { total charges.old ≡ 0 }
     ensures charges_after { charges.new ≡ charges_of sum weights.now ranks.now }
-    ensures total_value { (result.total ≡ total (charges_of sum weights.now ranks.now))
-        × (result.over ≡ exceeds (charges_of sum weights.now ranks.now) weights.now) }
+    ensures total_is { result.total ≡ total (charges_of sum weights.now ranks.now) }
+    ensures over_is { result.over ≡ exceeds (charges_of sum weights.now ranks.now) weights.now }
 {
     if sum == 0 {
         return Charged {
@@ -181,22 +178,10 @@ pub fn charge_by_rank(
             over: false,
         };
     }
-    let margin = marginal(sum, weights, ranks);
-    let over = share_marginal(
-        margin.rank,
-        margin.part,
-        margin.whole,
-        weights,
-        ranks,
-        charges,
-    );
-    charge_above(
-        margin.rank,
-        margin.total - margin.part,
-        weights,
-        ranks,
-        charges,
-    );
+    let ranked = Ranked { weights, ranks };
+    let margin = ranked.margin(sum);
+    let over = margin.share(&ranked, charges);
+    margin.charge_above(&ranked, charges);
     Charged {
         total: margin.total,
         over,

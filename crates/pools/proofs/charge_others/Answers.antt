@@ -14,19 +14,13 @@ use Rattle.figures.specs.Figures.{live}
 use Rattle.admission.proofs.Ranked.{ranks_fit}
 use Rattle.pools.proofs.charge_others.Goals as goal
 
-pub charge_by_rank-requires : goal.charge_by_rank-requires
-charge_by_rank-requires c =
-    let a = c.args in (
-      c.requires.0,
-      record {
-        weights_fit = c.requires.1.contribution_fits;
-        long = c.requires.1.contribution_length;
-        as_many = omega arith;
-        ranks_fit = λ k. rw c.read_ranks-read.ensures (ranks_fit (map (eqb live) a.status.now) a.ranks.now c.requires.1.well_ranked k);
-      },
-      c.requires.2,
-      c.requires.3,
-    )
+pub charge_by_rank-requires-clause-weighed : goal.charge_by_rank-requires-clause-weighed
+charge_by_rank-requires-clause-weighed c =
+    let a = c.args in
+    record {
+      weights_fit = c.requires.1.contribution_fits;
+      ranks_fit = λ k. rw c.read_ranks-read.ensures (ranks_fit (map (eqb live) a.status.now) a.ranks.now c.requires.1.well_ranked k);
+    }
 
 pub returns : goal.returns
 returns c =
@@ -38,6 +32,6 @@ returns c =
           e.charges_after
           ∙ ap (charges_of a.sum a.contribution.now) c.read_ranks-read.ensures
           ∙ charges_unread (map (eqb live) a.status.now) a.contribution.now a.ranks.now (length-keep (map (eqb live) a.status.now) a.contribution.now n) a.sum;
-      total_is = e.total_value.0 ∙ ap total (sym e.charges_after);
-      over_is = e.total_value.1 ∙ ap (λ (xs : List ℕ). exceeds xs a.contribution.now) (sym e.charges_after);
+      total_is = e.total_is ∙ ap total (sym e.charges_after);
+      over_is = e.over_is ∙ ap (λ (xs : List ℕ). exceeds xs a.contribution.now) (sym e.charges_after);
     }

@@ -1,12 +1,14 @@
 -- Document 01, "Stress sheet and sizing": a quantum shared over the members of a shares sheet, and refusals 9 and 10.
-use Rattle.std.specs.Prelude.{ℕ, ◌+◌, ◌-◌, ◌/◌, max, Bool, ◌&&◌, ◌||◌, List, map, eqb, ltb}
+use Rattle.std.specs.Prelude.{ℕ, ◌+◌, ◌-◌, ◌/◌, max, Bool, ◌&&◌, ◌||◌, List, map, eqb, ltb, Option, Some, None}
 use Rattle.lists.specs.Checks.{check}
 use Rattle.lists.specs.Highest.{highest}
 use Rattle.lists.specs.Limits.{amount_limit, contribution_floor}
 use Rattle.lists.specs.Sums.{total, plus, keep}
+use Rattle.refusal.specs.declared.Refusal.{Refusal}
 use Rattle.split.specs.Split.{split_of}
 use Rattle.sheets.specs.Bytes.{nonzero}
 use Rattle.sheets.specs.declared.columns.Columns.{Columns}
+use Rattle.requirements.specs.declared.Shared.{Shared}
 
 -- "In a shares sheet they are average volume, average initial margin and highest stress loss."
 abbrev pub average_volumes : Columns → List ℕ
@@ -43,6 +45,10 @@ requirements_of q columns = keep columns.present (map (max contribution_floor) (
 abbrev pub highest_of : ℕ → Columns → ℕ
 highest_of q columns = highest (requirements_of q columns)
 
+-- what is answered where q is not refused
+abbrev pub shared_of : ℕ → Columns → Shared
+shared_of q columns = record { highest = highest_of q columns; requirements = requirements_of q columns }
+
 -- 9. "A shares column adds to zero while its part of the quantum is above zero."
 abbrev pub unshared : ℕ → List ℕ → Bool
 unshared part column = nonzero part && eqb (total column) 0
@@ -55,9 +61,9 @@ any_unshared q columns =
 abbrev pub any_excessive : ℕ → Columns → Bool
 any_excessive q columns = ltb amount_limit (highest_of q columns)
 
--- 9, then 10, of a quantum; 0 where neither holds
-unfoldable pub sharing_refusal : ℕ → Columns → ℕ
+-- 9, then 10, of a quantum
+unfoldable pub sharing_refusal : ℕ → Columns → Option Refusal
 sharing_refusal q columns =
-    check (any_unshared q columns) 9
-    (check (any_excessive q columns) 10
-    0)
+    check (any_unshared q columns) (Some Refusal.Unshared)
+    (check (any_excessive q columns) (Some Refusal.ExcessiveRequirement)
+    None)

@@ -1,95 +1,103 @@
 // A quantum shared over the columns of a shares sheet: document 01, "Stress sheet and sizing", refusals 9 and 10.
 #![tactic(auto)]
 
-ghost use Rattle.std.specs.Prelude.{◌≡◌, cond, ◌&&◌, map, ℕ, ◌+◌, ◌≤◌, max, eqb, ltb, get_or};
-ghost use Rattle.lists.specs.Checks.{check};
-ghost use Rattle.lists.specs.Highest.{highest as highestIn};
-ghost use Rattle.lists.specs.Limits.{amount_limit, allocation_limit, contribution_floor};
+ghost use Rattle.std.specs.Prelude.{◌≡◌, cond, ◌&&◌, ℕ, ◌+◌, ◌≤◌, max, eqb, map, length, get_or};
+ghost use Rattle.lists.specs.Highest.{highest as highest_of_all};
+ghost use Rattle.lists.specs.Limits.{member_limit, amount_limit, allocation_limit, contribution_floor};
 ghost use Rattle.lists.specs.Sums.{total, plus, keep};
+ghost use Rattle.refusal.specs.Refusal.{answered};
 ghost use Rattle.sheets.specs.Bytes.{nonzero};
 ghost use Rattle.split.specs.Split.{split_of};
-ghost use Rattle.requirements.specs.Requirements.{requirements_of, any_unshared};
-ghost use Rattle.requirements.specs.Parts.{Moderate, Totalled, Shares};
+ghost use Rattle.requirements.specs.Requirements.{requirements_of, shared_of, any_unshared, sharing_refusal};
+ghost use Rattle.requirements.specs.Parts.{parts_of_quantum};
 
-use lists::numbers::{greater, widened};
 use lists::{AMOUNT_LIMIT, CONTRIBUTION_FLOOR};
+use refusal::Refusal;
 use sheets::columns::Columns;
+use std::array;
+use std::marker::Model;
 
-// What the columns add to.
+// A number for each column of a shares sheet: what the column adds to, or the part of a quantum that goes by it.
 #[derive(Clone, Copy)]
-pub struct Totals {
+struct ByColumn {
     volume: u64,
     margin: u64,
     stress: u64,
 }
 
-// A quantum shared: its refusal's number, 0 where it has none, its requirements, and the highest of them.
+// The columns of a shares sheet, with what they add to.
+#[derive(Drop)]
+pub struct SharesSheet {
+    columns: Columns,
+    totals: ByColumn,
+}
+
+impl Model for SharesSheet {
+    ghost use Rattle.sheets.specs.declared.columns.Columns.{Columns};
+    ghost use Rattle.requirements.specs.Parts.{Totalled};
+
+    ghost Value = { Columns };
+
+    ghost view = { λ s. s.columns };
+
+    ghost invariant = { λ s. Totalled s.columns s.totals };
+}
+
+// A quantum shared: the requirements by member number, and the highest of them.
 #[derive(Drop)]
 pub struct Shared {
-    pub number: u8,
     pub highest: u64,
     pub requirements: [u64; 64],
 }
 
-fn added(column: [u32; 64]) -> u64
-    requires { (k : ℕ) → get_or column k 0 ≤ amount_limit }
-    ensures { result ≡ total column }
+fn added(column: &[u32]) -> u64
+    requires { length column.now ≤ member_limit }
+    ensures { result ≡ total column.now }
 {
-    let mut sum: u64 = 0;
-    for i in 0..64 {
-        sum += column[i] as u64;
-    }
-    sum
+    column.iter().map(|&amount| u64::from(amount)).sum()
 }
 
-pub fn add_up(columns: Columns) -> Totals
-    requires { Moderate columns }
-    ensures { Totalled columns result }
+fn highest(numbers: &[u64; 64]) -> u64
+    ensures { result ≡ highest_of_all numbers.now }
 {
-    let volume = columns.first;
-    let margin = columns.second;
-    let stress = columns.third;
-    Totals {
-        volume: added(volume),
-        margin: added(margin),
-        stress: added(stress),
+    numbers.iter().fold(0, |most, &number| most.max(number))
+}
+
+// "Q/4 rounded down goes by initial margin, as much by stress loss, the remainder by volume"
+fn parts_of(quantum: u64) -> ByColumn
+    ensures { result ≡ parts_of_quantum quantum }
+{
+    let quarter = quantum / 4;
+    ByColumn {
+        volume: quantum - (quarter + quarter),
+        margin: quarter,
+        stress: quarter,
     }
 }
 
 fn unshared(part: u64, whole: u64) -> bool
     ensures { result ≡ (nonzero part && eqb whole 0) }
 {
-    (0 < part) & (whole == 0)
+    0 < part && whole == 0
 }
 
-// Refusal 9.
-fn any_unshared(quantum: u64, totals: Totals) -> bool
-    ensures { (columns : Columns) → Totalled columns totals → result ≡ any_unshared quantum columns }
-{
-    let quarter = quantum / 4;
-    let rest = quantum - (quarter + quarter);
-    unshared(quarter, totals.margin)
-        | unshared(quarter, totals.stress)
-        | unshared(rest, totals.volume)
-}
-
-// A part of the quantum by its column. Nothing is divided where there is nothing to share, or nobody to share it.
-fn part(sum: u64, whole: u64, weights: [u32; 64]) -> [u64; 64]
-    requires { (sum ≤ allocation_limit) × (whole ≡ total weights) × ((k : ℕ) → get_or weights k 0 ≤ amount_limit) }
-    ensures { result ≡ split_of sum weights }
+// A part of a quantum by its column. Nothing is divided where there is nothing to share.
+fn part(sum: u64, whole: u64, weights: &[u32; 64]) -> [u64; 64]
+    requires moderate { sum ≤ allocation_limit }
+    requires whole_is { whole ≡ total weights.now }
+    requires weights_fit { (k : ℕ) → get_or weights.now k 0 ≤ amount_limit }
+    ensures shared { result ≡ split_of sum weights.now }
+    ensures within { (k : ℕ) → get_or result k 0 ≤ sum }
 {
     let mut shares = [0u64; 64];
     if sum == 0 {
         return shares;
     }
-    if whole == 0 {
-        return shares;
-    }
-    let numbers = widened(weights);
-    split::split(sum, whole, &numbers, &mut shares);
+    split::split(sum, whole, &weights.map(u64::from), &mut shares);
     shares
 }
 
+// "a requirement is the three parts added, at least 10,000"; 0 where the member is absent
 fn requirement(present: bool, margin: u64, stress: u64, volume: u64) -> u64
     requires { (margin ≤ allocation_limit) × (stress ≤ allocation_limit) × (volume ≤ allocation_limit) }
     ensures { result ≡ cond present (max contribution_floor (margin + (stress + volume))) 0 }
@@ -97,73 +105,74 @@ fn requirement(present: bool, margin: u64, stress: u64, volume: u64) -> u64
     if !present {
         return 0;
     }
-    greater(CONTRIBUTION_FLOOR, margin + (stress + volume))
+    CONTRIBUTION_FLOOR.max(margin + (stress + volume))
 }
 
-// The parts of each member added, at least 10,000; 0 where the member is absent.
-fn joined(present: [bool; 64], margin: [u64; 64], stress: [u64; 64], volume: [u64; 64]) -> [u64; 64]
-    requires { (k : ℕ) → (get_or margin k 0 ≤ allocation_limit) × (get_or stress k 0 ≤ allocation_limit) × (get_or volume k 0 ≤ allocation_limit) }
-    ensures { result ≡ keep present (map (max contribution_floor) (plus margin (plus stress volume))) }
+// The requirements by member number.
+fn joined(
+    present: &[bool; 64],
+    margin: &[u64; 64],
+    stress: &[u64; 64],
+    volume: &[u64; 64],
+) -> [u64; 64]
+    requires margin_fits { (k : ℕ) → get_or margin.now k 0 ≤ allocation_limit }
+    requires stress_fits { (k : ℕ) → get_or stress.now k 0 ≤ allocation_limit }
+    requires volume_fits { (k : ℕ) → get_or volume.now k 0 ≤ allocation_limit }
+    ensures { result ≡ keep present.now (map (max contribution_floor) (plus margin.now (plus stress.now volume.now))) }
 {
-    let mut out = [0u64; 64];
-    for i in 0..64 {
-        let x = requirement(present[i], margin[i], stress[i], volume[i]);
-        out[i] = x;
+    array::from_fn(|i| requirement(present[i], margin[i], stress[i], volume[i]))
+}
+
+impl SharesSheet {
+    pub fn new(columns: Columns) -> Self
+        ensures { result ≡ columns }
+    {
+        let totals = ByColumn {
+            volume: added(&columns.first),
+            margin: added(&columns.second),
+            stress: added(&columns.third),
+        };
+        SharesSheet { columns, totals }
     }
-    out
-}
 
-fn requirements(quantum: u64, columns: Columns, totals: Totals) -> [u64; 64]
-    requires { (quantum ≤ allocation_limit) × Moderate columns × Totalled columns totals }
-    ensures { result ≡ requirements_of quantum columns }
-{
-    let quarter = quantum / 4;
-    let rest = quantum - (quarter + quarter);
-    let volumes = columns.first;
-    let margins = columns.second;
-    let stresses = columns.third;
-    let present = columns.present;
-    let margin = part(quarter, totals.margin, margins);
-    let stress = part(quarter, totals.stress, stresses);
-    let volume = part(rest, totals.volume, volumes);
-    joined(present, margin, stress, volume)
-}
-
-fn highest(xs: [u64; 64]) -> u64
-    ensures { result ≡ highestIn xs }
-{
-    let mut most: u64 = 0;
-    for i in 0..64 {
-        most = greater(most, xs[i]);
+    // Refusal 9.
+    #[tactic(auto, unfolding(crate::specs::Requirements::any_unshared))]
+    fn any_unshared(&self, parts: ByColumn) -> bool
+        ensures { (quantum : ℕ) → parts ≡ parts_of_quantum quantum → result ≡ any_unshared quantum self.now }
+    {
+        unshared(parts.margin, self.totals.margin)
+            || unshared(parts.stress, self.totals.stress)
+            || unshared(parts.volume, self.totals.volume)
     }
-    most
-}
 
-// 9, then 10.
-#[tactic(auto, unfolding(lists::specs::Checks::check))]
-fn refused(unshared: bool, highest: u64) -> u8
-    ensures { result ≡ check unshared 9 (check (ltb amount_limit highest) 10 0) }
-{
-    if unshared {
-        return 9;
+    fn requirements(&self, parts: ByColumn) -> [u64; 64]
+        requires { (parts.margin ≤ allocation_limit) × (parts.stress ≤ allocation_limit) × (parts.volume ≤ allocation_limit) }
+        ensures { (quantum : ℕ) → parts ≡ parts_of_quantum quantum → result ≡ requirements_of quantum self.now }
+    {
+        let margin = part(parts.margin, self.totals.margin, &self.columns.second);
+        let stress = part(parts.stress, self.totals.stress, &self.columns.third);
+        let volume = part(parts.volume, self.totals.volume, &self.columns.first);
+        joined(&self.columns.present, &margin, &stress, &volume)
     }
-    if AMOUNT_LIMIT < highest {
-        return 10;
-    }
-    0
-}
 
-pub fn share(quantum: u64, columns: Columns, totals: Totals) -> Shared
-    requires { (quantum ≤ allocation_limit) × Moderate columns × Totalled columns totals }
-    ensures { Shares quantum columns result }
-{
-    let unshared = any_unshared(quantum, totals);
-    let requirements = requirements(quantum, columns, totals);
-    let highest = highest(requirements);
-    let number = refused(unshared, highest);
-    Shared {
-        number,
-        highest,
-        requirements,
+    // A quantum shared, or 9, or 10.
+    #[tactic(auto, unfolding(lists::specs::Checks::check, crate::specs::Requirements::sharing_refusal))]
+    pub fn share(&self, quantum: u64) -> Result<Shared, Refusal>
+        requires { quantum ≤ allocation_limit }
+        ensures { result ≡ answered (sharing_refusal quantum self.now) (shared_of quantum self.now) }
+    {
+        let parts = parts_of(quantum);
+        if self.any_unshared(parts) {
+            return Err(Refusal::Unshared);
+        }
+        let requirements = self.requirements(parts);
+        let highest = highest(&requirements);
+        if AMOUNT_LIMIT < highest {
+            return Err(Refusal::ExcessiveRequirement);
+        }
+        Ok(Shared {
+            highest,
+            requirements,
+        })
     }
 }

@@ -1,11 +1,10 @@
-use Rattle.lists.proofs.Highest.{highest_step, highest-end}
-use native.Mathlib.Omega.{arith}
+-- `requirements::highest` meets its contract.
+use Prim.Native.Nat.{max}
+use mathlib.Core.Path.{◌≡◌, ◌∙◌}
+use borrow.Author.Rules.{rules}
+use Rattle.std.specs.List.{fold}
+use Rattle.requirements.proofs.Sharing.{highest_as_fold}
 use Rattle.requirements.proofs.highest.Goals as goal
 
-pub loop-i-preserved : goal.loop-i-preserved
-loop-i-preserved c =
-    let l = c.loop-i in
-    omega (arith, c.greater-most.ensures, highest_step c.args.xs l.i (omega arith))
-
 pub returns : goal.returns
-returns c = omega (arith, highest-end c.args.xs c.loop-i.i (omega arith))
+returns c = let e : c.fold.result ≡ fold max 0 c.args.numbers.now = search rules in e ∙ highest_as_fold c.args.numbers.now

@@ -1,11 +1,28 @@
 -- `requirements::part` meets its contract.
-use Rattle.split.proofs.Laws.{total-none}
-use Rattle.requirements.proofs.Sharing.{no-shares, total_of-none_at}
+use mathlib.Core.Path.{◌≡◌, ap, ◌∙◌}
 use native.Mathlib.Omega.{arith}
+use borrow.Author.Rules.{rules}
+use Rattle.split.specs.Split.{split_of}
+use Rattle.split.proofs.Laws.{split-le, splits_as}
+use Rattle.figures.proofs.Made.{mapped_as}
+use Rattle.requirements.proofs.Sharing.{no-shares, none_within, total_of-none_at}
 use Rattle.requirements.proofs.part.Goals as goal
 
 pub returns-then-sum-eq0 : goal.returns-then-sum-eq0
-returns-then-sum-eq0 c = no-shares _ _ (omega arith) (total_of-none_at _ _ c.if-sum-eq0.true)
+returns-then-sum-eq0 c = record {
+  shared = no-shares _ _ (omega arith) (total_of-none_at _ _ c.if-sum-eq0.true);
+  within = none_within 64 c.args.sum;
+}
 
-pub returns-then-whole-eq0 : goal.returns-then-whole-eq0
-returns-then-whole-eq0 c = no-shares _ _ (omega arith) (total-none _ _ (omega arith))
+pub split-requires : goal.split-requires
+split-requires c =
+    let a = c.args in
+    let e : c.map.result ≡ a.weights.now = mapped_as _ _ 0 0 _ _ _ (λ i y p q h k. search rules) (omega arith) c.map.ensures.items in
+    splits_as a.sum a.whole c.map.result a.weights.now _ e c.requires.moderate c.requires.whole_is c.requires.weights_fit (omega arith) (omega arith)
+
+pub returns : goal.returns
+returns c =
+    let a = c.args in
+    let e : c.map.result ≡ a.weights.now = mapped_as _ _ 0 0 _ _ _ (λ i y p q h k. search rules) (omega arith) c.map.ensures.items in
+    let s = c.split.ensures.shares_after ∙ ap (split_of a.sum) e in
+    record { shared = s; within = λ k. rw s (split-le a.sum a.weights.now k) }

@@ -1,3 +1,4 @@
 -- The definitions that the contracts of `stress` cite.
+pub mod Figures
 pub mod Stress
 pub mod Parts

@@ -1,9 +1,8 @@
 -- What the parts of `stress` promise each other. No rule of document 01 is here.
-use Rattle.std.specs.Prelude.{ℕ, ◌+◌, ◌*◌, ◌≡◌, Bool, true, false, ◌||◌, ◌&&◌, List, eqb, ltb}
+use Rattle.std.specs.Prelude.{ℕ, ◌+◌, ◌*◌, Bool, ◌||◌, List, ltb}
 use Rattle.lists.specs.Limits.{amount_limit, day_limit, scenario_limit}
 use Rattle.sheets.specs.Bytes.{le32, absent_amount, beyond}
-use Rattle.stress.specs.Stress.{day_at, scenario_at, loss_at, same_block, stress_outside}
-use Rattle.stress.specs.declared.Before.{Before}
+use Rattle.stress.specs.Stress.{day_at, scenario_at, loss_at, stress_outside}
 
 -- a number of eight bytes, the lowest first
 unfoldable pub le64 : List ℕ → ℕ → ℕ
@@ -16,12 +15,3 @@ block_beyond s = beyond 1 day_limit (day_at s) || beyond 1 scenario_limit (scena
 -- whether one of 4, 5 and 6 refuses a record
 unfoldable pub stress_faulty : List ℕ → Bool
 stress_faulty s = stress_outside s || absent_amount (loss_at s) || ltb amount_limit (loss_at s)
-
--- whether a record's block is later than that of the record before
-abbrev pub later_block : Before → List ℕ → Bool
-later_block before s =
-    ltb before.day (day_at s) || (eqb (day_at s) before.day && ltb before.scenario (scenario_at s))
-
--- a record of the block before has a day and a scenario that were tried
-abbrev pub Known : Before → List ℕ → Type 0
-Known before s = same_block before s ≡ true → block_beyond s ≡ false

@@ -3,26 +3,34 @@
 
 pub mod losses;
 
-// What stands before a record of a stress sheet: the record before it, and the weak flags of that record's block so far.
+use std::marker::Model;
+
+// What stands before a record of a stress sheet: the record before it, and the weak flags of that record's block so far. Day, scenario and
+// flags are within their limits.
 #[derive(Clone, Copy)]
 pub struct Before {
-    pub day: u64,
-    pub scenario: u64,
-    pub member: u64,
-    pub flags: u64,
+    pub day: u16,
+    pub scenario: u16,
+    pub member: u8,
+    pub flags: u8,
 }
 
-// What a record of a stress sheet is found to be.
-#[derive(Drop)]
-pub enum Stress {
-    Outside,
-    Missing,
-    Excessive,
-    NotRising,
-    SixthWeak,
-    Loss {
-        loss: u64,
-        weak: u64,
-        before: Before,
-    },
+impl Model for Before {
+    ghost use Rattle.stress.specs.Figures.{BeforeFigures, BlockWithin};
+
+    ghost Value = { BeforeFigures };
+
+    ghost view = { λ b. record { day = b.day; scenario = b.scenario; member = b.member; flags = b.flags } };
+
+    ghost inverse = { λ v. record { day = v.day; scenario = v.scenario; member = v.member; flags = v.flags } };
+
+    ghost invariant = { λ b. BlockWithin b.day b.scenario b.flags };
+}
+
+// A record in order: its loss, whether it is flagged as weak, and what stands before the next record.
+#[derive(Clone, Copy)]
+pub struct Loss {
+    pub amount: u32,
+    pub weak: bool,
+    pub next: Before,
 }

@@ -1,187 +1,152 @@
 // A record of a stress sheet: document 01's refusals 4 to 8, and the record by them. 4, 5 and 6 are tried together first, and one by one
-// where a record is refused.
-ghost use Rattle.std.specs.Prelude.{◌≡◌, true, false, not, ◌+◌, ◌≤◌, length};
+// where a record is refused. Tests are joined by `|` and `&`, as the definitions join them by `||` and `&&`: they do not branch.
+ghost use Rattle.std.specs.Prelude.{◌≡◌, ◌+◌, ◌≤◌, true, false, not, Option, Some};
 ghost use Rattle.lists.specs.Limits.{weak_limit};
-ghost use Rattle.sheets.specs.Bytes.{absent_amount};
-ghost use Rattle.stress.specs.Stress.{loss_at, weak_at, one_block, same_block, flags_before, passed, stress_outside, stress_rises, stress_of, stress_number};
-ghost use Rattle.stress.specs.Parts.{le64, block_beyond, stress_faulty, later_block, Known};
+ghost use Rattle.refusal.specs.Refusal.{answered};
+ghost use Rattle.stress.specs.Stress.{weak_at, same_block, flags_before, passed, stress_outside, stress_rises, stress_fault, loss_of};
+ghost use Rattle.stress.specs.Parts.{le64, block_beyond, stress_faulty};
 
-use crate::{Before, Stress};
-use lists::{AMOUNT_LIMIT, DAY_LIMIT, SCENARIO_LIMIT, WEAK_LIMIT};
-use sheets::bytes::{absent, beyond, byte, le16, le32, nonzero};
+use crate::{Before, Loss};
+use lists::{AMOUNT_LIMIT, WEAK_LIMIT};
+use refusal::Fault;
+use sheets::bytes::{beyond, le16, le32};
 
-const MEMBERS: u64 = lists::MEMBER_LIMIT as u64;
+const DAYS: u32 = lists::DAY_LIMIT as u32;
+
+const SCENARIOS: u32 = lists::SCENARIO_LIMIT as u32;
+
+const MEMBERS: u32 = lists::MEMBER_LIMIT as u32;
+
+const MISSING: u32 = lists::MISSING_AMOUNT as u32;
 
 // Whether day and scenario are within their values.
-pub fn placed(s: &[u8]) -> bool
-    requires { 16 ≤ length s.now }
-    ensures { result ≡ not (block_beyond s.now) }
+fn placed(bytes: &[u8; 16]) -> bool
+    ensures { result ≡ not (block_beyond bytes.now) }
 {
-    !beyond(1, DAY_LIMIT, le16(s, 0)) & !beyond(1, SCENARIO_LIMIT, le16(s, 2))
+    !beyond(1, DAYS, u32::from(le16(bytes, 0))) & !beyond(1, SCENARIOS, u32::from(le16(bytes, 2)))
 }
 
-fn outside(s: &[u8]) -> bool
-    requires { 16 ≤ length s.now }
-    ensures { result ≡ stress_outside s.now }
+#[tactic(auto, using(crate::proofs::Tests::outside_by_number))]
+fn outside(bytes: &[u8; 16]) -> bool
+    ensures { result ≡ stress_outside bytes.now }
 {
-    !placed(s)
-        | beyond(1, MEMBERS, byte(s, 4))
-        | beyond(0, 1, byte(s, 5))
-        | nonzero(s, 6)
-        | nonzero(s, 7)
-        | nonzero(s, 12)
-        | nonzero(s, 13)
-        | nonzero(s, 14)
-        | nonzero(s, 15)
+    !placed(bytes)
+        | beyond(1, MEMBERS, u32::from(bytes[4]))
+        | beyond(0, 1, u32::from(bytes[5]))
+        | (le16(bytes, 6) != 0)
+        | (le32(bytes, 12) != 0)
 }
 
-fn missing(s: &[u8]) -> bool
-    requires { 16 ≤ length s.now }
-    ensures { result ≡ absent_amount (loss_at s.now) }
+// Bytes 8 to 15 as one number.
+#[tactic(auto, unfolding(crate::specs::Parts::le64, sheets::specs::Bytes::le32))]
+fn loss_to_end(bytes: &[u8; 16]) -> u64
+    ensures { result ≡ le64 bytes.now 8 }
 {
-    absent(le32(s, 8))
+    u64::from_le_bytes([
+        bytes[8], bytes[9], bytes[10], bytes[11], bytes[12], bytes[13], bytes[14], bytes[15],
+    ])
 }
 
-fn le64(s: &[u8], at: usize) -> u64
-    requires { at + 8 ≤ length s.now }
-    ensures { result ≡ le64 s.now at }
-{
-    le32(s, at) + le32(s, at + 4) * 4_294_967_296
-}
-
-// Whether none of 4, 5 and 6 refuses a record whose day and scenario are within their values. Bytes 8 to 15 are one number here: it is the
+// Whether none of 4, 5 and 6 refuses a record whose day and scenario are within their values. Bytes 8 to 15 as one number are the
 // loss where the last four are zero, and above every limit where they are not.
-fn filled(s: &[u8]) -> bool
-    requires { 16 ≤ length s.now }
-    ensures { block_beyond s.now ≡ false → result ≡ not (stress_faulty s.now) }
+#[tactic(auto, using(crate::proofs::Tests::filled_by_number))]
+fn filled(bytes: &[u8; 16]) -> bool
+    ensures { block_beyond bytes.now ≡ false → result ≡ not (stress_faulty bytes.now) }
 {
-    !beyond(1, MEMBERS, byte(s, 4))
-        & !beyond(0, 1, byte(s, 5))
-        & (le16(s, 6) == 0)
-        & (le64(s, 8) <= AMOUNT_LIMIT)
+    !beyond(1, MEMBERS, u32::from(bytes[4]))
+        & !beyond(0, 1, u32::from(bytes[5]))
+        & (le16(bytes, 6) == 0)
+        & (loss_to_end(bytes) <= AMOUNT_LIMIT)
+}
+
+// Whether the record is of the block of the record before.
+pub fn same_block(before: &Option<Before>, bytes: &[u8; 16]) -> bool
+    ensures is { result ≡ same_block before.now bytes.now }
+    ensures tried { result ≡ true → block_beyond bytes.now ≡ false }
+{
+    let Some(before) = before else {
+        return false;
+    };
+    le16(bytes, 0) == before.day && le16(bytes, 2) == before.scenario
 }
 
 // Whether none of 4, 5 and 6 refuses the record. Where it is of the block of the record before, day and scenario were tried with that one.
-fn sound(same: bool, s: &[u8]) -> bool
-    requires { (16 ≤ length s.now) × (same ≡ true → block_beyond s.now ≡ false) }
-    ensures { result ≡ not (stress_faulty s.now) }
+#[tactic(auto, using(crate::proofs::Tests::unplaced))]
+fn sound(before: &Option<Before>, bytes: &[u8; 16]) -> bool
+    ensures { result ≡ not (stress_faulty bytes.now) }
 {
-    if same {
-        return filled(s);
-    }
-    placed(s) & filled(s)
+    (same_block(before, bytes) || placed(bytes)) && filled(bytes)
 }
 
 // The first of 4, 5 and 6 that refuses the record, where one does.
-fn fault(s: &[u8]) -> Stress
-    requires { (16 ≤ length s.now) × (stress_faulty s.now ≡ true) }
-    ensures { (before : Before) → result ≡ stress_of before s.now }
+#[tactic(auto, using(crate::proofs::Tests::faulty_fault), unfolding(lists::specs::Checks::check))]
+fn fault(bytes: &[u8; 16]) -> Fault
+    requires { stress_faulty bytes.now ≡ true }
+    ensures { (before : Option Before) → stress_fault before bytes.now ≡ Some result }
 {
-    if outside(s) {
-        return Stress::Outside;
+    if outside(bytes) {
+        return Fault::Outside;
     }
-    if missing(s) {
-        return Stress::Missing;
+    if le32(bytes, 8) == MISSING {
+        return Fault::Missing;
     }
-    Stress::Excessive
+    Fault::Excessive
 }
 
-// "A block is one day and scenario."
-pub fn one_block(day: u64, scenario: u64, before: Before) -> bool
-    ensures { result ≡ one_block day scenario before.day before.scenario }
+// "Day, scenario, member strictly rise as a triple."
+#[tactic(auto, unfolding(crate::specs::Stress::stress_rises))]
+fn rises(before: &Option<Before>, bytes: &[u8; 16]) -> bool
+    ensures { result ≡ stress_rises before.now bytes.now }
 {
-    (day == before.day) & (scenario == before.scenario)
-}
-
-fn same_block(before: Before, s: &[u8]) -> bool
-    requires { 16 ≤ length s.now }
-    ensures { result ≡ same_block before s.now }
-{
-    one_block(le16(s, 0), le16(s, 2), before)
-}
-
-fn later_block(before: Before, s: &[u8]) -> bool
-    requires { 16 ≤ length s.now }
-    ensures { result ≡ later_block before s.now }
-{
-    let day = le16(s, 0);
-    (before.day < day) | ((day == before.day) & (before.scenario < le16(s, 2)))
-}
-
-// Within a block the members rise, and of two blocks the later follows.
-fn rises(before: Before, same: bool, s: &[u8]) -> bool
-    requires { (16 ≤ length s.now) × (same ≡ same_block before s.now) }
-    ensures { result ≡ stress_rises before s.now }
-{
-    if same {
-        return before.member < byte(s, 4);
-    }
-    later_block(before, s)
-}
-
-// The weak flags of the record's block up to the record, its own included.
-fn flags_to(before: Before, same: bool, s: &[u8]) -> u64
-    requires { (16 ≤ length s.now) × (before.flags ≤ weak_limit) × (same ≡ same_block before s.now) }
-    ensures { result ≡ flags_before before s.now + weak_at s.now }
-{
-    let weak = byte(s, 5);
-    if same {
-        return before.flags + weak;
-    }
-    weak
-}
-
-fn in_order(flags: u64, s: &[u8]) -> Stress
-    requires { 16 ≤ length s.now }
-    ensures { (before : Before) → flags ≡ flags_before before s.now + weak_at s.now → result ≡ Stress.Loss (loss_at s.now) (weak_at s.now) (passed before s.now) }
-{
-    let next = Before {
-        day: le16(s, 0),
-        scenario: le16(s, 2),
-        member: byte(s, 4),
-        flags,
+    let Some(before) = before else {
+        return true;
     };
-    Stress::Loss {
-        loss: le32(s, 8),
-        weak: byte(s, 5),
-        before: next,
+    (before.day, before.scenario, before.member) < (le16(bytes, 0), le16(bytes, 2), bytes[4])
+}
+
+// The weak flags of the record's block that stand before it.
+fn flags_before(before: &Option<Before>, bytes: &[u8; 16]) -> u8
+    ensures is { result ≡ flags_before before.now bytes.now }
+    ensures most { result ≤ weak_limit }
+{
+    match before {
+        Some(last) if same_block(before, bytes) => last.flags,
+        _ => 0,
     }
 }
 
-// The record at the start of `s`, after what stands before it.
-#[tactic(auto, using(crate::proofs::Tests::judged))]
-pub fn stress(before: Before, s: &[u8]) -> Stress
-    requires { (16 ≤ length s.now) × (before.flags ≤ weak_limit) × Known before s.now }
-    ensures { result ≡ stress_of before s.now }
+// What stands before the next record: this one, and the weak flags of its block up to it.
+#[tactic(auto, using(crate::proofs::Laws::stands_within))]
+fn passed(flags: u8, bytes: &[u8; 16]) -> Before
+    requires { (stress_faulty bytes.now ≡ false) × (flags ≤ weak_limit) }
+    ensures { (before : Option Before) → flags ≡ flags_before before bytes.now + weak_at bytes.now → result ≡ passed before bytes.now }
 {
-    let same = same_block(before, s);
-    if !sound(same, s) {
-        return fault(s);
+    Before {
+        day: le16(bytes, 0),
+        scenario: le16(bytes, 2),
+        member: bytes[4],
+        flags,
     }
-    if !rises(before, same, s) {
-        return Stress::NotRising;
-    }
-    let flags = flags_to(before, same, s);
-    if WEAK_LIMIT < flags {
-        return Stress::SixthWeak;
-    }
-    in_order(flags, s)
 }
 
-// Document 01's number of a refusal, 0 for a record in order.
-pub fn stress_number(e: Stress) -> u8
-    ensures { result ≡ stress_number e }
+// The record of these bytes, after what stands before it.
+#[tactic(auto, using(crate::proofs::Tests::sound_fault, crate::proofs::Laws::sound_weak), unfolding(lists::specs::Checks::check))]
+pub fn read_loss(before: &Option<Before>, bytes: &[u8; 16]) -> Result<Loss, Fault>
+    ensures { result ≡ answered (stress_fault before.now bytes.now) (loss_of before.now bytes.now) }
 {
-    match e {
-        Stress::Outside => 4,
-        Stress::Missing => 5,
-        Stress::Excessive => 6,
-        Stress::NotRising => 7,
-        Stress::SixthWeak => 8,
-        Stress::Loss {
-            loss: _,
-            weak: _,
-            before: _,
-        } => 0,
+    if !sound(before, bytes) {
+        return Err(fault(bytes));
     }
+    if !rises(before, bytes) {
+        return Err(Fault::NotRising);
+    }
+    let flags = flags_before(before, bytes) + bytes[5];
+    if WEAK_LIMIT < u64::from(flags) {
+        return Err(Fault::SixthWeak);
+    }
+    Ok(Loss {
+        amount: le32(bytes, 8),
+        weak: bytes[5] != 0,
+        next: passed(flags, bytes),
+    })
 }

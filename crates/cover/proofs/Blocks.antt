@@ -1,7 +1,6 @@
 -- One pass over the blocks of a stress sheet: what is kept of a block as records join it, and of the worst block as blocks end.
 use Prim.Native.Nat.{ℕ, ◌+◌, ◌≤◌, ◌<◌, max, zero-le}
 use mathlib.Core.Path.{◌≡◌, refl, ap, sym, ◌∙◌}
-use mathlib.Core.Bool.{cond}
 use mathlib.Core.List.{List, [], ◌∷◌, map}
 use mathlib.Core.Logic.{⊎_elim}
 use native.Mathlib.Nat.{eq-zero-or-pos}
@@ -16,7 +15,7 @@ use Rattle.lists.specs.Highest.{highest, without}
 use Rattle.cover.specs.Cover.{StressLoss, member_losses, cover_sum, earliest_with, flagged_loss, flagged_sum}
 use Rattle.cover.specs.Parts.{block_of, worse_of}
 use Rattle.cover.specs.declared.Block.{Block}
-use Rattle.cover.specs.declared.Worst.{Worst}
+use Rattle.cover.specs.declared.Covered.{Covered}
 use Rattle.lists.proofs.Highest.{second_above, second_below}
 use Rattle.lists.proofs.Tests.{below}
 
@@ -26,24 +25,28 @@ block_path : {t u r s f g : ℕ} → t ≡ u → r ≡ s → f ≡ g
     → ◌≡◌ {A = Block} (record { top = t; second = r; flagged = f }) (record { top = u; second = s; flagged = g })
 block_path p q r = λ i. record { top = p i; second = q i; flagged = r i }
 
--- a record x, of a loss and a flag, joins the block of the records xs; `flagged` is what it adds to the flagged losses
-module _ (b : Block) (xs : List StressLoss) (x : StressLoss) (loss weak flagged : ℕ) (is : b ≡ block_of xs) (loss_is : x.loss ≡ loss) (weak_is : x.weak ≡ weak)
-    (flagged-is : flagged ≡ cond (nonzero weak) loss 0) where
-  flagged-joined : b.flagged + flagged ≡ flagged_sum (x ∷ xs)
+-- no record yet
+pub block_of_none : record { top = 0; second = 0; flagged = 0 } ≡ block_of []
+unfolding block_of member_losses highest without flagged_sum
+block_of_none = refl
+
+-- a record x joins the block of the records xs
+module _ (b : Block) (xs : List StressLoss) (x : StressLoss) (flagged : ℕ) (is : b ≡ block_of xs) (flagged-is : flagged ≡ b.flagged + flagged_loss x) where
+  flagged-joined : flagged ≡ flagged_sum (x ∷ xs)
   unfolding block_of flagged_sum
   flagged-joined =
       let w : b.flagged ≡ flagged_sum xs = ap (λ (v : Block). v.flagged) is in
-      rw (flagged-is, ← loss_is, ← weak_is) (omega arith)
+      omega arith
 
-  pub joined_above : b.top < loss → record { top = loss; second = b.top; flagged = b.flagged + flagged } ≡ block_of (x ∷ xs)
+  pub joined_above : b.top < x.loss → record { top = x.loss; second = b.top; flagged = flagged } ≡ block_of (x ∷ xs)
   unfolding block_of member_losses highest
   joined_above h =
       let t : b.top ≡ highest (member_losses xs) = ap (λ (v : Block). v.top) is in
       block_path (omega arith) (t ∙ sym (second_above x.loss (member_losses xs) (omega arith))) flagged-joined
 
-  pub joined_below : (s : ℕ) → loss ≤ b.top → s ≡ max b.second loss → record { top = b.top; second = s; flagged = b.flagged + flagged } ≡ block_of (x ∷ xs)
+  pub joined_below : x.loss ≤ b.top → record { top = b.top; second = max b.second x.loss; flagged = flagged } ≡ block_of (x ∷ xs)
   unfolding block_of member_losses highest
-  joined_below s h k =
+  joined_below h =
       let t : b.top ≡ highest (member_losses xs) = ap (λ (v : Block). v.top) is in
       let n : b.second ≡ highest (without (highest (member_losses xs)) (member_losses xs)) = ap (λ (v : Block). v.second) is in
       block_path (omega arith) (omega (arith, second_below x.loss (member_losses xs) (omega arith))) flagged-joined
@@ -51,21 +54,21 @@ module _ (b : Block) (xs : List StressLoss) (x : StressLoss) (loss weak flagged 
 -- the worst of blocks ---------------------------------------------------------------
 
 -- the worst block so far, after further blocks
-unfoldable pub worst_of : Worst → List (List StressLoss) → Worst
+unfoldable pub worst_of : Covered → List (List StressLoss) → Covered
 worst_of w [] = w
 worst_of w (b ∷ bs) = worst_of (worse_of w (block_of b)) bs
 
-abbrev pub nothing : Worst
+abbrev pub nothing : Covered
 nothing = record { cover = 0; weak = 0 }
 
 sum_is : (b : List StressLoss) → (block_of b).top + (block_of b).second ≡ cover_sum b
 unfolding block_of cover_sum
 sum_is b = refl
 
-worse-cover : (w : Worst) (b : List StressLoss) → (worse_of w (block_of b)).cover ≡ max w.cover (cover_sum b)
+worse-cover : (w : Covered) (b : List StressLoss) → (worse_of w (block_of b)).cover ≡ max w.cover (cover_sum b)
 worse-cover w b =
     rw (sum_is b)
-    (check_by (λ (v : Worst). v.cover ≡ max w.cover (cover_sum b)) (ltb w.cover (cover_sum b))
+    (check_by (λ (v : Covered). v.cover ≡ max w.cover (cover_sum b)) (ltb w.cover (cover_sum b))
     (record { cover = cover_sum b; weak = (block_of b).flagged })
     w
     (λ t. omega (arith, ltb-true w.cover (cover_sum b) t))
@@ -74,7 +77,7 @@ worse-cover w b =
 abbrev most : List (List StressLoss) → ℕ
 most bs = highest (map cover_sum bs)
 
-worst-cover : (w : Worst) (bs : List (List StressLoss)) → (worst_of w bs).cover ≡ max w.cover (most bs)
+worst-cover : (w : Covered) (bs : List (List StressLoss)) → (worst_of w bs).cover ≡ max w.cover (most bs)
 unfolding worst_of highest
 worst-cover w [] = omega arith
 worst-cover w (b ∷ bs) = omega (arith, worst-cover (worse_of w (block_of b)) bs, worse-cover w b)
@@ -82,11 +85,11 @@ worst-cover w (b ∷ bs) = omega (arith, worst-cover (worse_of w (block_of b)) b
 abbrev flagged_with : ℕ → List (List StressLoss) → ℕ
 flagged_with c bs = flagged_sum (earliest_with c bs)
 
-worse_yes : (w : Worst) (b : List StressLoss) → w.cover < cover_sum b → worse_of w (block_of b) ≡ record { cover = cover_sum b; weak = flagged_sum b }
+worse_yes : (w : Covered) (b : List StressLoss) → w.cover < cover_sum b → worse_of w (block_of b) ≡ record { cover = cover_sum b; weak = flagged_sum b }
 unfolding block_of cover_sum
 worse_yes w b h = sym (check-lt _ _ w.cover (cover_sum b) h refl)
 
-worse_no : (w : Worst) (b : List StressLoss) → cover_sum b ≤ w.cover → worse_of w (block_of b) ≡ w
+worse_no : (w : Covered) (b : List StressLoss) → cover_sum b ≤ w.cover → worse_of w (block_of b) ≡ w
 unfolding block_of cover_sum
 worse_no w b h = sym (check_nlt _ _ w.cover (cover_sum b) h refl)
 
@@ -110,21 +113,21 @@ module _ (c x : ℕ) (b : List StressLoss) (bs : List (List StressLoss)) where
       (ap flagged_sum
       (check-eq b (earliest_with (max (cover_sum b) (most bs)) bs) (cover_sum b) (max (cover_sum b) (most bs)) (omega arith) refl))
 
-worst-weak : (w : Worst) (bs : List (List StressLoss))
+worst-weak : (w : Covered) (bs : List (List StressLoss))
     → (worst_of w bs).weak ≡ check (ltb w.cover (most bs)) (flagged_with (most bs) bs) w.weak
 unfolding worst_of highest
 worst-weak w [] = check_nlt _ _ w.cover 0 zero-le refl
 worst-weak w (b ∷ bs) =
     ⊎_elim
     (λ h.
-    ap (λ (v : Worst). (worst_of v bs).weak) (worse_yes w b h)
+    ap (λ (v : Covered). (worst_of v bs).weak) (worse_yes w b h)
     ∙ worst-weak (record { cover = cover_sum b; weak = flagged_sum b }) bs
     ∙ ⊎_elim
     (λ k. sym (check-lt _ _ (cover_sum b) (most bs) k refl) ∙ worst_later w.cover w.weak b bs k (omega arith))
     (λ k. sym (check_nlt _ _ (cover_sum b) (most bs) k refl) ∙ worst_here w.cover w.weak b bs k h)
     (below (cover_sum b) (most bs)))
     (λ h.
-    ap (λ (v : Worst). (worst_of v bs).weak) (worse_no w b h)
+    ap (λ (v : Covered). (worst_of v bs).weak) (worse_no w b h)
     ∙ worst-weak w bs
     ∙ ⊎_elim
     (λ k. sym (check-lt _ _ w.cover (most bs) k refl) ∙ worst_later w.cover w.weak b bs (omega arith) k)

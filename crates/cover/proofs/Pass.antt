@@ -1,56 +1,55 @@
 -- The one pass over a stress sheet: what holds before each record, from the first to past the last.
-use Prim.Native.Nat.{ℕ, zero, suc, ◌+◌, ◌-◌, ◌*◌, ◌≤◌, ◌<◌, max, zero-le}
-use mathlib.Core.Path.{◌≡◌, refl, ap, sym, ◌∙◌}
-use mathlib.Core.Bool.{Bool, true, false, ◌||◌, not, cond}
-use mathlib.Core.List.{List, [], ◌∷◌}
+use Rattle.std.proofs.Common.{◌≡◌, ℕ, zero, suc, ◌+◌, ◌-◌, ◌*◌, ◌≤◌, ◌<◌, max, List, [], ◌∷◌, Bool, true, false, cond, get_or, Option, Some, None, Result, Ok, Err, refl, ap, sym, ◌∙◌, arith}
+use Prim.Native.Nat.{zero-le}
 use native.Mathlib.Nat.{le_trans}
-use native.Mathlib.Omega.{arith}
-use borrow.Author.Tests.{le-ltb, ltb-false, not-true, not-false}
-use lib.Dec.{ltb}
-use lib.ListN.{length}
+use Rattle.std.specs.Simd.{first_chunks}
 use Rattle.lists.specs.Limits.{amount_limit, weak_limit}
 use Rattle.lists.proofs.Sums.{cond-le}
-use Rattle.lists.proofs.Checks.{check_by, check-true, check-false, check_nlt, neither}
-use Rattle.sheets.specs.Bytes.{record_at, nonzero}
-use Rattle.sheets.specs.Sheet.{refusal, record_count}
-use Rattle.sheets.specs.declared.Refusal.{Refusal}
-use Rattle.stress.specs.Stress.{weak_at, loss_at, before_all, one_block, stress_number, stress_refusal}
-use Rattle.stress.specs.Parts.{block_beyond}
-use Rattle.stress.specs.declared.Before.{Before}
-use Rattle.stress.specs.declared.Stress.TheVariants.{Outside}
-use Rattle.stress.proofs.Laws.{LossInOrder, refused-outside, stress_begins, stress-refused_here}
+use Rattle.lists.proofs.Checks.{check-true, check-false, check_nlt}
 use Rattle.lists.specs.Highest.{highest, without}
-use Rattle.cover.specs.Cover.{StressLoss, loss_record, records_from, records_of, blocks_from, blocks_of, member_losses, flagged_loss, flagged_sum, cover_of, weak_of}
-use Rattle.cover.specs.Parts.{block_of, worse_of, Slight, Bounded, StressRead}
+use Rattle.lists.proofs.Highest.{without-le}
+use Rattle.refusal.specs.Refusal.{answered, located, at_record}
+use Rattle.refusal.specs.declared.Fault.{Fault}
+use Rattle.refusal.specs.declared.Refusal.{Refusal}
+use Rattle.refusal.proofs.Laws.{located_err, located_ok}
+use Rattle.sheets.specs.Bytes.{record_at, nonzero}
+use Rattle.sheets.specs.Sheet.{record_count}
+use Rattle.sheets.proofs.Laws.{chunk_at}
+use Rattle.stress.specs.Stress.{weak_at, loss_at, same_block, flags_before, passed, loss_of, stress_fault, stress_refusal_from, stress_refusal}
+use Rattle.stress.specs.declared.Before.{Before}
+use Rattle.stress.specs.declared.Loss.{Loss}
+use Rattle.stress.proofs.Laws.{LossInOrder, loss_in-order}
+use Rattle.cover.specs.Cover.{StressLoss, loss_record, records_from, records_of, blocks_from, blocks_of, member_losses, flagged_loss, flagged_sum, cover_of, weak_of, covered_of}
+use Rattle.cover.specs.Parts.{block_of, worse_of, Slight}
 use Rattle.cover.specs.declared.Block.{Block}
 use Rattle.cover.specs.declared.Covered.{Covered}
-use Rattle.cover.specs.declared.Worst.{Worst}
-use Rattle.lists.proofs.Highest.{without-le}
 use Rattle.cover.proofs.Blocks.{worst_of, nothing, worst_of_all}
 
--- whether two records that follow each other are of one block
-abbrev pub same_of : Before → Before → Bool
-same_of before next = one_block next.day next.scenario before.day before.scenario
-
 -- the record before is the latest of the open block
-abbrev Follows : List StressLoss → Before → Type 0
+abbrev Follows : List StressLoss → Option Before → Type 0
 Follows [] before = Unit {0}
-Follows (latest ∷ earlier) before = (before.day ≡ latest.day) × (before.scenario ≡ latest.scenario)
+Follows (latest ∷ earlier) None = ⊥
+Follows (latest ∷ earlier) (Some before) = (before.day ≡ latest.day) × (before.scenario ≡ latest.scenario)
 
--- before record i: the open block's records, what is kept of them and of the worst block so far, and that from here on the worst block of
--- the sheet is still found
-pub record Pass (sheet : List ℕ) (count i : ℕ) (before : Before) (block : Block) (worst : Worst) : Type 0 where
+-- the weak flags of the open block
+abbrev flags_of : Option Before → ℕ
+flags_of None = 0
+flags_of (Some before) = before.flags
+
+-- before record i: what is left to refuse is the whole sheet's; the open block's records and what is kept of them; and that from here on the
+-- worst block of the sheet is still found
+pub record Pass (sheet : List ℕ) (i : ℕ) (before : Option Before) (block : Block) (worst : Covered) : Type 0 where
+  pub left_to_refuse : stress_refusal_from (record_count sheet - i) sheet i before ≡ stress_refusal sheet
   pub records : List StressLoss
   pub block_is : block ≡ block_of records
   pub follows : Follows records before
-  pub whole : worst_of worst (blocks_from records (records_from (count - i) sheet i)) ≡ worst_of nothing (blocks_of (records_of sheet))
-  pub flags_most : before.flags ≤ weak_limit
+  pub whole : worst_of worst (blocks_from records (records_from (record_count sheet - i) sheet i)) ≡ worst_of nothing (blocks_of (records_of sheet))
+  pub flags_most : flags_of before ≤ weak_limit
   pub top_most : block.top ≤ amount_limit
   pub second_most : block.second ≤ amount_limit
-  pub flagged_most : block.flagged ≤ amount_limit * before.flags
-  pub bounded : Bounded worst
+  pub flagged_most : block.flagged ≤ amount_limit * flags_of before
 
-pub slight : {sheet : List ℕ} {count i : ℕ} {before : Before} {block : Block} {worst : Worst} → Pass sheet count i before block worst → Slight block
+pub slight : {sheet : List ℕ} {i : ℕ} {before : Option Before} {block : Block} {worst : Covered} → Pass sheet i before block worst → Slight block
 slight p =
     record {
       top_most = p.top_most;
@@ -59,48 +58,20 @@ slight p =
     }
 
 -- the first record
-pub pass_begins : (sheet : List ℕ) (block : Block) → block ≡ block_of [] → Pass sheet (record_count sheet) 0 before_all block nothing
-unfolding block_of member_losses highest without flagged_sum
-pass_begins sheet block e =
-    let t : block.top ≡ 0 = ap (λ (b : Block). b.top) e in
-    let s : block.second ≡ 0 = ap (λ (b : Block). b.second) e in
-    let f : block.flagged ≡ 0 = ap (λ (b : Block). b.flagged) e in
+pub pass_begins : (sheet : List ℕ) → Pass sheet 0 None (block_of []) nothing
+unfolding block_of member_losses highest without flagged_sum stress_refusal
+pass_begins sheet =
+    let all : record_count sheet - 0 ≡ record_count sheet = omega arith in
     record {
+      left_to_refuse = rw all refl;
       records = [];
-      block_is = e;
+      block_is = refl;
       follows = tt;
-      whole = ap (λ (n : ℕ). worst_of nothing (blocks_from [] (records_from n sheet 0))) (omega arith);
+      whole = rw all refl;
       flags_most = zero-le;
-      top_most = omega arith;
-      second_most = omega arith;
-      flagged_most = omega arith;
-      bounded = record { cover_most = zero-le; weak_most = zero-le };
-    }
-
--- its day and scenario are tried before the pass begins
-module _ (sheet : List ℕ) (begins : Bool) (is : begins ≡ (ltb (length sheet) 16 || not (block_beyond sheet))) where
-  pub first_known : begins ≡ true → 0 < record_count sheet → block_beyond sheet ≡ false
-  first_known h more =
-      let long = le-ltb (length sheet) 16 (omega arith) in
-      not-true (block_beyond sheet) (sym (rw long at is) ∙ h)
-
-  pub first-refused : begins ≡ false → (0 < stress_number Outside) × (refusal (stress_number Outside) 1 ≡ stress_refusal sheet)
-  first-refused h =
-      let n = neither (ltb (length sheet) 16) (not (block_beyond sheet)) (sym is ∙ h) in
-      let more : 0 < record_count sheet = omega (arith, ltb-false (length sheet) 16 n.0) in
-      let here = stress-refused_here sheet (record_count sheet) 0 before_all more Outside (refused-outside before_all sheet (not-false (block_beyond sheet) n.1)) (omega arith) in
-      (omega arith, sym here ∙ stress_begins sheet)
-
--- what a refused sheet reads as
-pub refused-read : {sheet : List ℕ} {n position : ℕ} {reading : Covered} → (reading.refusal ≡ refusal n position) × (reading.cover ≡ 0) × (reading.weak ≡ 0)
-    → (0 < n) × (refusal n position ≡ stress_refusal sheet) → StressRead sheet reading
-refused-read p q =
-    record {
-      refused = p.0 ∙ q.1;
-      cover_is = λ z. absurd (omega (arith, ap (λ (x : Refusal). x.number) p.0, q.0));
-      weak_is = λ z. absurd (omega (arith, ap (λ (x : Refusal). x.number) p.0, q.0));
-      cover_most = omega (arith, p.1);
-      weak_most = omega (arith, p.2);
+      top_most = zero-le;
+      second_most = zero-le;
+      flagged_most = zero-le;
     }
 
 -- what is kept of a block that a record joins stays within its limits
@@ -127,37 +98,35 @@ flagged-within : (w l : ℕ) → l ≤ amount_limit → cond (nonzero w) l 0 ≤
 flagged-within zero l h = zero-le
 flagged-within (suc w) l h = omega (arith, cond-le (nonzero (suc w)) l)
 
--- the worse of two blocks within their limits is so
-worse_bounded : (worst : Worst) (block : Block) → Bounded worst → Slight block → Bounded (worse_of worst block)
-worse_bounded worst block w b =
-    check_by Bounded (ltb worst.cover (block.top + block.second)) (record { cover = block.top + block.second; weak = block.flagged }) worst
-    (λ e.
-    record {
-      cover_most = omega (arith, b.top_most, b.second_most);
-      weak_most = b.flagged_most;
-    })
-    (λ e. w)
-
 -- an open block that has no record yet is worse than none
-worse_than_empty : (worst : Worst) → worse_of worst (block_of []) ≡ worst
+worse_than_empty : (worst : Covered) → worse_of worst (block_of []) ≡ worst
 unfolding block_of member_losses highest without
 worse_than_empty worst = sym (check_nlt _ _ worst.cover 0 zero-le refl)
 
 -- a record of the open block, and one that is not of it: the blocks from here on
-module _ (before next : Before) (x : StressLoss) (day : next.day ≡ x.day) (scenario : next.scenario ≡ x.scenario) (worst : Worst) (rest : List StressLoss) where
-  on_same : (xs : List StressLoss) → Follows xs before → same_of before next ≡ true → blocks_from xs (x ∷ rest) ≡ blocks_from (x ∷ xs) rest
+module _ (before : Option Before) (s : List ℕ) (worst : Covered) (rest : List StressLoss) where
+  on_same : (xs : List StressLoss) → Follows xs before → same_block before s ≡ true → blocks_from xs (loss_record s ∷ rest) ≡ blocks_from (loss_record s ∷ xs) rest
   unfolding blocks_from
-  on_same [] f e = sym (check-true _ _ true refl refl)
-  on_same (latest ∷ earlier) f e = sym (check-true _ _ _ (rw (day, scenario, f.0, f.1) at e) refl)
+  on_same xs f e = go xs before f e
+    where
+      go : (xs : List StressLoss) (before : Option Before) → Follows xs before → same_block before s ≡ true
+          → blocks_from xs (loss_record s ∷ rest) ≡ blocks_from (loss_record s ∷ xs) rest
+      go [] before f e = sym (check-true _ _ true refl refl)
+      go (latest ∷ earlier) None f e = absurd f
+      go (latest ∷ earlier) (Some b) f e = sym (check-true _ _ _ (rw (f.0, f.1) at e) refl)
 
-  on_other : (xs : List StressLoss) → Follows xs before → same_of before next ≡ false
-      → worst_of worst (blocks_from xs (x ∷ rest)) ≡ worst_of (worse_of worst (block_of xs)) (blocks_from (x ∷ []) rest)
+  on_other : (xs : List StressLoss) → Follows xs before → same_block before s ≡ false
+      → worst_of worst (blocks_from xs (loss_record s ∷ rest)) ≡ worst_of (worse_of worst (block_of xs)) (blocks_from (loss_record s ∷ []) rest)
   unfolding blocks_from worst_of
-  on_other [] f e =
-      ap (worst_of worst) (sym (check-true _ _ true refl refl))
-      ∙ ap (λ (w : Worst). worst_of w (blocks_from (x ∷ []) rest)) (sym (worse_than_empty worst))
-  on_other (latest ∷ earlier) f e =
-      ap (worst_of worst) (sym (check-false _ _ _ (rw (day, scenario, f.0, f.1) at e) refl))
+  on_other xs f e = go xs before f e
+    where
+      go : (xs : List StressLoss) (before : Option Before) → Follows xs before → same_block before s ≡ false
+          → worst_of worst (blocks_from xs (loss_record s ∷ rest)) ≡ worst_of (worse_of worst (block_of xs)) (blocks_from (loss_record s ∷ []) rest)
+      go [] before f e =
+          ap (worst_of worst) (sym (check-true _ _ true refl refl))
+          ∙ ap (λ (w : Covered). worst_of w (blocks_from (loss_record s ∷ []) rest)) (sym (worse_than_empty worst))
+      go (latest ∷ earlier) None f e = absurd f
+      go (latest ∷ earlier) (Some b) f e = ap (worst_of worst) (sym (check-false _ _ _ (rw (f.0, f.1) at e) refl))
 
 empty_top : (block_of []).top ≤ amount_limit
 unfolding block_of member_losses highest
@@ -171,97 +140,130 @@ empty_flagged : (block_of []).flagged ≤ amount_limit * 0
 unfolding block_of flagged_sum
 empty_flagged = zero-le
 
--- the block that a record joins
-pub opened_slight : (same : Bool) (block opened : Block) → opened ≡ cond same block (block_of []) → Slight block → Slight opened
-opened_slight true block opened e b = rw e b
-opened_slight false block opened e b =
-    rw e (record { top_most = empty_top; second_most = empty_second; flagged_most = le_trans empty_flagged zero-le })
+pub slight_none : Slight (block_of [])
+slight_none = record { top_most = empty_top; second_most = empty_second; flagged_most = le_trans empty_flagged zero-le }
 
 -- the next record
-module _ (sheet : List ℕ) (count i : ℕ) (before next : Before) (block opened joined : Block) (worst ended : Worst) (loss weak : ℕ) where
-  abbrev x : StressLoss
-  x = loss_record (record_at sheet i)
+module _ (sheet : List ℕ) (i : ℕ) (before : Option Before) (block : Block) (worst : Covered) (pass : Pass sheet i before block worst) where
+  module _ (more : i < record_count sheet) where
+    abbrev here : List ℕ
+    here = record_at sheet i
 
-  abbrev rest : List StressLoss
-  rest = records_from (count - (i + 1)) sheet (i + 1)
+    abbrev fault : Option Fault
+    fault = stress_fault before here
 
-  rest_is : i < count → records_from (count - i) sheet i ≡ x ∷ rest
-  unfolding records_from
-  rest_is more =
-      let left : count - i ≡ suc (count - (i + 1)) = omega arith in
-      ap (λ (n : ℕ). records_from n sheet i) left
+    abbrev rest_refusal : Option Refusal
+    rest_refusal = stress_refusal_from (record_count sheet - (i + 1)) sheet (i + 1) (Some (passed before here))
 
-  passes : (xs : List StressLoss) (flags : ℕ) → LossInOrder before (record_at sheet i) loss weak next → opened ≡ block_of xs → opened.top ≤ amount_limit
-      → opened.flagged ≤ amount_limit * flags → next.flags ≡ flags + weak_at (record_at sheet i) → joined ≡ block_of (x ∷ xs)
-      → worst_of ended (blocks_from (x ∷ xs) rest) ≡ worst_of nothing (blocks_of (records_of sheet)) → Bounded ended
-      → Pass sheet count (i + 1) next joined ended
-  passes xs flags o e t f n j w b =
-      record {
-        records = x ∷ xs;
-        block_is = j;
-        follows = (ap (λ (v : Before). v.day) o.next_is, ap (λ (v : Before). v.scenario) o.next_is);
-        whole = w;
-        flags_most = o.flags_most;
-        top_most = top;
-        second_most = omega (arith, joined_second xs x j, top);
-        flagged_most =
-            omega (
-              arith,
-              joined_flagged xs x j,
-              ap (λ (v : Block). v.flagged) e,
-              flagged-within (weak_at (record_at sheet i)) (loss_at (record_at sheet i)) (omega (arith, o.loss_is, o.loss_most)),
-            );
-        bounded = b;
-      }
-    where
-      top : joined.top ≤ amount_limit
-      top = omega (arith, joined_top xs x j, ap (λ (v : Block). v.top) e, o.loss_is, o.loss_most)
+    abbrev rest : List StressLoss
+    rest = records_from (record_count sheet - (i + 1)) sheet (i + 1)
 
-  pub pass_on : Pass sheet count i before block worst → i < count → LossInOrder before (record_at sheet i) loss weak next
-      → ended ≡ cond (same_of before next) worst (worse_of worst block)
-      → opened ≡ cond (same_of before next) block (block_of [])
-      → ((xs : List StressLoss) (x : StressLoss) → opened ≡ block_of xs → x.loss ≡ loss → x.weak ≡ weak → joined ≡ block_of (x ∷ xs))
-      → Pass sheet count (i + 1) next joined ended
-  pass_on p more o e f j = go (same_of before next) refl e f
-    where
-      flags : next.flags ≡ cond (same_of before next) before.flags 0 + weak_at (record_at sheet i)
-      flags = rw o.next_is
+    left : record_count sheet - i ≡ suc (record_count sheet - (i + 1))
+    left = omega arith
 
-      day : next.day ≡ x.day
-      day = ap (λ (v : Before). v.day) o.next_is
+    rest_is : records_from (record_count sheet - i) sheet i ≡ loss_record here ∷ rest
+    unfolding records_from
+    rest_is = ap (λ (n : ℕ). records_from n sheet i) left
 
-      scenario : next.scenario ≡ x.scenario
-      scenario = ap (λ (v : Before). v.scenario) o.next_is
+    refusal_is : at_record (i + 1) fault rest_refusal ≡ stress_refusal sheet
+    unfolding stress_refusal_from
+    refusal_is = sym (ap (λ (n : ℕ). stress_refusal_from n sheet i before) left) ∙ pass.left_to_refuse
 
-      go : (b : Bool) → same_of before next ≡ b → ended ≡ cond b worst (worse_of worst block) → opened ≡ cond b block (block_of [])
-          → Pass sheet count (i + 1) next joined ended
-      go true s e f =
-          passes p.records before.flags o (f ∙ p.block_is) (rw f p.top_most) (rw f p.flagged_most) (rw s at flags)
-          (j p.records x (f ∙ p.block_is) (sym o.loss_is) (sym o.weak_is))
-          (rw e
-          (sym (ap (worst_of worst) (ap (blocks_from p.records) (rest_is more) ∙ on_same before next x day scenario worst rest p.records p.follows s))
-          ∙ p.whole))
-          (rw e p.bounded)
-      go false s e f =
-          passes [] 0 o f (rw f empty_top) (rw f empty_flagged) (rw s at flags)
-          (j [] x f (sym o.loss_is) (sym o.weak_is))
-          (rw (e, p.block_is)
-          (sym (ap (λ (rs : List StressLoss). worst_of worst (blocks_from p.records rs)) (rest_is more)
-          ∙ on_other before next x day scenario worst rest p.records p.follows s)
-          ∙ p.whole))
-          (rw e (worse_bounded worst block p.bounded (slight p)))
+    module _ (records : List (List ℕ)) (read : Result Loss Fault) (found : Result Loss Refusal) (are : records ≡ first_chunks 16 (record_count sheet) sheet)
+        (read_is : read ≡ answered (stress_fault before (get_or records i [])) (loss_of before (get_or records i []))) (found_is : found ≡ located (i + 1) read) where
+      pub chunk : get_or records i [] ≡ here
+      chunk = ap (λ (xs : List (List ℕ)). get_or xs i []) are ∙ chunk_at 16 (record_count sheet) i sheet [] more
 
--- past the last record, the open block is the last
-pub pass_ends : (sheet : List ℕ) (count i : ℕ) (before : Before) (block : Block) (worst last : Worst) → Pass sheet count i before block worst → count ≤ i
-    → last ≡ worse_of worst block → last ≡ record { cover = cover_of sheet; weak = weak_of sheet }
-unfolding cover_of weak_of records_from blocks_from worst_of
-pass_ends sheet count i before block worst last p h e =
-    let none : count - i ≡ 0 = omega arith in
-    e
-    ∙ ap (worse_of worst) p.block_is
-    ∙ sym (ap (λ (n : ℕ). worst_of worst (blocks_from p.records (records_from n sheet i))) none)
-    ∙ p.whole
-    ∙ worst_of_all (blocks_of (records_of sheet))
+      as_found : found ≡ located (i + 1) (answered fault (loss_of before here))
+      as_found = found_is ∙ ap (located (i + 1)) (read_is ∙ ap (λ (s : List ℕ). answered (stress_fault before s) (loss_of before s)) chunk)
 
-pub pass_bounded : {sheet : List ℕ} {count i : ℕ} {before : Before} {block : Block} {worst last : Worst} → Pass sheet count i before block worst → last ≡ worse_of worst block → Bounded last
-pass_bounded {block = block} {worst = worst} p e = rw e (worse_bounded worst block p.bounded (slight p))
+      pub refused : (refusal : Refusal) → found ≡ Err refusal → Err refusal ≡ answered (stress_refusal sheet) (covered_of sheet)
+      refused refusal e = rw (← refusal_is, located_err (i + 1) fault (loss_of before here) rest_refusal (sym as_found ∙ e)) refl
+
+      module _ (loss : Loss) (e : found ≡ Ok loss) where
+        accepted : (fault ≡ None) × (loss_of before here ≡ loss)
+        accepted = located_ok (i + 1) fault (loss_of before here) (sym as_found ∙ e)
+
+        in_order : LossInOrder before here
+        in_order = loss_in-order before here accepted.0
+
+        pub amount_most : loss.amount ≤ amount_limit
+        amount_most = omega (arith, in_order.loss_most, ap (λ (l : Loss). l.amount) accepted.1)
+
+        -- the record joins the block of the records xs, which has so many flags before it
+        passes : (xs : List StressLoss) (flags : ℕ) {opened joined : Block} {ended : Covered} → opened ≡ block_of xs → opened.top ≤ amount_limit
+            → opened.flagged ≤ amount_limit * flags → flags_before before here ≡ flags → joined ≡ block_of (loss_record here ∷ xs)
+            → worst_of ended (blocks_from (loss_record here ∷ xs) rest) ≡ worst_of nothing (blocks_of (records_of sheet))
+            → Pass sheet (i + 1) (Some loss.next) joined ended
+        passes xs flags {opened} {joined} {ended} o t f n j w =
+            rw (← ap (λ (l : Loss). l.next) accepted.1)
+            (record {
+              left_to_refuse = ap (λ (x : Option Fault). at_record (i + 1) x rest_refusal) (sym accepted.0) ∙ refusal_is;
+              records = loss_record here ∷ xs;
+              block_is = j;
+              follows = (refl, refl);
+              whole = w;
+              flags_most = in_order.flags_most;
+              top_most = top;
+              second_most = omega (arith, joined_second xs (loss_record here) j, top);
+              flagged_most =
+                  omega (
+                    arith,
+                    n,
+                    joined_flagged xs (loss_record here) j,
+                    ap (λ (v : Block). v.flagged) o,
+                    flagged-within (weak_at here) (loss_at here) in_order.loss_most,
+                  );
+            })
+          where
+            top : joined.top ≤ amount_limit
+            top = omega (arith, joined_top xs (loss_record here) j, ap (λ (v : Block). v.top) o, in_order.loss_most)
+
+        abbrev Joins : Block → Block → Type 0
+        Joins opened joined =
+            (xs : List StressLoss) (x : StressLoss) → opened ≡ block_of xs → x.loss ≡ loss.amount → nonzero x.weak ≡ loss.weak → joined ≡ block_of (x ∷ xs)
+
+        join : {opened joined : Block} (xs : List StressLoss) → Joins opened joined → opened ≡ block_of xs → joined ≡ block_of (loss_record here ∷ xs)
+        join xs j o = j xs (loss_record here) o (ap (λ (l : Loss). l.amount) accepted.1) (ap (λ (l : Loss). l.weak) accepted.1)
+
+        same_here : {same b : Bool} → same ≡ same_block before (get_or records i []) → same ≡ b → same_block before here ≡ b
+        same_here q s = sym (q ∙ ap (same_block before) chunk) ∙ s
+
+        pub goes_on_same : {joined : Block} {same : Bool} → same ≡ same_block before (get_or records i []) → same ≡ true → Joins block joined
+            → Pass sheet (i + 1) (Some loss.next) joined worst
+        goes_on_same {joined} q t j =
+            passes pass.records (flags_of before) {opened = block} pass.block_is pass.top_most pass.flagged_most (flags_same before s) (join pass.records j pass.block_is)
+            (sym (ap (worst_of worst) (ap (blocks_from pass.records) rest_is ∙ on_same before here worst rest pass.records pass.follows s)) ∙ pass.whole)
+          where
+            s : same_block before here ≡ true
+            s = same_here q t
+
+            flags_same : (b : Option Before) → same_block b here ≡ true → flags_before b here ≡ flags_of b
+            flags_same None s = refl
+            flags_same (Some b) s = rw s refl
+
+        pub goes_on_other : {opened joined : Block} {ended : Covered} {same : Bool} → same ≡ same_block before (get_or records i []) → same ≡ false → opened ≡ block_of []
+            → ended ≡ worse_of worst block → Joins opened joined → Pass sheet (i + 1) (Some loss.next) joined ended
+        goes_on_other {opened} {joined} q t o w j =
+            passes [] 0 {opened = opened} o (rw o empty_top) (rw o empty_flagged) (flags_other before s) (join [] j o)
+            (rw (w, pass.block_is)
+            (sym (ap (λ (rs : List StressLoss). worst_of worst (blocks_from pass.records rs)) rest_is ∙ on_other before here worst rest pass.records pass.follows s) ∙ pass.whole))
+          where
+            s : same_block before here ≡ false
+            s = same_here q t
+
+            flags_other : (b : Option Before) → same_block b here ≡ false → flags_before b here ≡ 0
+            flags_other None s = refl
+            flags_other (Some b) s = rw s refl
+
+  -- past the last record, the open block is the last
+  pub ends : {last : Covered} → record_count sheet ≤ i → last ≡ worse_of worst block → Ok last ≡ answered (stress_refusal sheet) (covered_of sheet)
+  unfolding cover_of weak_of records_from blocks_from worst_of stress_refusal_from
+  ends {last} h e =
+      let none : record_count sheet - i ≡ 0 = omega arith in
+      let w = e
+      ∙ ap (worse_of worst) pass.block_is
+      ∙ sym (ap (λ (n : ℕ). worst_of worst (blocks_from pass.records (records_from n sheet i))) none)
+      ∙ pass.whole
+      ∙ worst_of_all (blocks_of (records_of sheet)) in
+      rw (← pass.left_to_refuse, none) (ap (λ (c : Covered). Ok c) w)

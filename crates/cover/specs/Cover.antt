@@ -6,6 +6,7 @@ use Rattle.lists.specs.Sums.{total}
 use Rattle.sheets.specs.Bytes.{record_at, nonzero}
 use Rattle.sheets.specs.Sheet.{record_count}
 use Rattle.stress.specs.Stress.{day_at, scenario_at, stressed_at, weak_at, loss_at, one_block}
+use Rattle.cover.specs.declared.Covered.{Covered}
 
 -- a record of the sheet
 pub record StressLoss : Type 0 where
@@ -80,3 +81,6 @@ cover_of sheet = highest (map cover_sum (blocks_of (records_of sheet)))
 -- "W is the sum of flagged losses in that block, also of members already counted in C."
 unfoldable pub weak_of : List ℕ → ℕ
 weak_of sheet = flagged_sum (earliest_with (cover_of sheet) (blocks_of (records_of sheet)))
+
+abbrev pub covered_of : List ℕ → Covered
+covered_of sheet = record { cover = cover_of sheet; weak = weak_of sheet }

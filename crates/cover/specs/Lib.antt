@@ -1,4 +1,5 @@
 -- The definitions that the contracts of `cover` cite.
+pub mod Figures
 pub mod Cover
 pub mod Parts
 pub mod Examples

@@ -1,14 +1,12 @@
 -- What the parts of `cover` promise each other. No rule of document 01 is here.
 -- One pass over a stress sheet keeps something of the block that is open, and of the worst block before it.
-use Rattle.std.specs.Prelude.{ℕ, ◌+◌, ◌*◌, ◌≤◌, ◌≡◌, List, ltb}
+use Rattle.std.specs.Prelude.{◌+◌, ◌*◌, ◌≤◌, List, ltb}
 use Rattle.lists.specs.Checks.{check}
 use Rattle.lists.specs.Highest.{highest, without}
 use Rattle.lists.specs.Limits.{amount_limit, weak_limit}
-use Rattle.stress.specs.Stress.{stress_refusal}
-use Rattle.cover.specs.Cover.{StressLoss, member_losses, flagged_sum, cover_of, weak_of}
+use Rattle.cover.specs.Cover.{StressLoss, member_losses, flagged_sum}
 use Rattle.cover.specs.declared.Block.{Block}
 use Rattle.cover.specs.declared.Covered.{Covered}
-use Rattle.cover.specs.declared.Worst.{Worst}
 
 -- what is kept of a block
 unfoldable pub block_of : List StressLoss → Block
@@ -20,7 +18,7 @@ block_of records =
     }
 
 -- the worse of the worst block so far and a later one
-abbrev pub worse_of : Worst → Block → Worst
+abbrev pub worse_of : Covered → Block → Covered
 worse_of worst block =
     check (ltb worst.cover (block.top + block.second))
     (record { cover = block.top + block.second; weak = block.flagged })
@@ -31,15 +29,3 @@ pub record Slight (block : Block) : Type 0 where
   pub top_most : block.top ≤ amount_limit
   pub second_most : block.second ≤ amount_limit
   pub flagged_most : block.flagged ≤ weak_limit * amount_limit
-
-pub record Bounded (worst : Worst) : Type 0 where
-  pub cover_most : worst.cover ≤ 2 * amount_limit
-  pub weak_most : worst.weak ≤ weak_limit * amount_limit
-
--- a stress sheet as it is read
-pub record StressRead (sheet : List ℕ) (reading : Covered) : Type 0 where
-  pub refused : reading.refusal ≡ stress_refusal sheet
-  pub cover_is : reading.refusal.number ≡ 0 → reading.cover ≡ cover_of sheet
-  pub weak_is : reading.refusal.number ≡ 0 → reading.weak ≡ weak_of sheet
-  pub cover_most : reading.cover ≤ 2 * amount_limit
-  pub weak_most : reading.weak ≤ weak_limit * amount_limit

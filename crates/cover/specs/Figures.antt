@@ -1,0 +1,12 @@
+-- C and W as numbers.
+use Rattle.std.specs.Prelude.{ℕ, ◌*◌, ◌≤◌}
+use Rattle.lists.specs.Limits.{amount_limit, weak_limit}
+
+pub record CoveredFigures : Type 0 where
+  pub cover : ℕ
+  pub weak : ℕ
+
+-- two losses, and five flagged ones
+pub record Bounded (cover weak : ℕ) : Type 0 where
+  pub cover_most : cover ≤ 2 * amount_limit
+  pub weak_most : weak ≤ weak_limit * amount_limit

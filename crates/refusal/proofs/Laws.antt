@@ -1,8 +1,14 @@
 -- What an answer tells of the refusal that comes before it.
-use Rattle.std.proofs.Common.{◌≡◌, ℕ, Option, Some, None, Ok, Err, refl, arith}
+use Rattle.std.proofs.Common.{◌≡◌, ℕ, Option, Some, None, Ok, Err, refl, arith, ◌⊎◌, inl, inr}
 use Rattle.refusal.specs.Refusal.{answered, located, at_record}
 use Rattle.refusal.specs.declared.Fault.{Fault}
 use Rattle.refusal.specs.declared.Refusal.{Refusal}
+
+-- an answer is the refusal that comes before it, or itself: said so that `grind` finds it
+pub answered_cases : {A E : Type 0} (o : Option E) (answer : A)
+    → (answered o answer ≡ answered o answer) × (((refusal : E) × (o ≡ Some refusal) × (answered o answer ≡ Err refusal)) ⊎ ((o ≡ None) × (answered o answer ≡ Ok answer)))
+answered_cases (Some refusal) answer = (refl, inl (refusal, refl, refl))
+answered_cases None answer = (refl, inr (refl, refl))
 
 -- of a record that was looked at: where it is refused, so are the records from it on; where it is not, it is in order
 module _ {A : Type 0} (position : ℕ) (fault : Option Fault) (answer : A) where

@@ -1,4 +1,1 @@
--- The laws that the proofs of `sizing` cite.
-pub mod Review
-pub mod Outcome
-pub mod Judging
+-- No lemma is needed here.

@@ -16,7 +16,7 @@ use Rattle.stress.specs.Stress.{stressed_at, weak_at, loss_at, stress_outside, s
 use Rattle.stress.specs.Parts.{le64, block_beyond, stress_faulty}
 use Rattle.refusal.specs.declared.Fault.{Fault}
 use Rattle.stress.specs.declared.Before.{Before}
-use Rattle.std.proofs.Common.{Option, Some, None}
+use Rattle.std.proofs.Common.{Option, Some, None, ◌∙◌}
 use Rattle.std.proofs.lemmas.Bool.Decides.{nat_tests}
 
 -- a number of several bytes is zero where each of them is ------------------------
@@ -74,6 +74,12 @@ sound_fault before s e =
     let f = neither _ _ (not-true _ e) in
     let o = neither _ _ f.0 in
     sym (check-false _ _ _ o.0 (check-false _ _ _ o.1 (check-false _ _ _ f.1 refl)))
+
+-- one that rises too
+pub rising_fault : (before : Option Before) (s : List ℕ) → stress_faulty s ≡ false → stress_rises before s ≡ true
+    → stress_fault before s ≡ check (sixth_weak before s) (Some Fault.SixthWeak) None
+unfolding check
+rising_fault before s e r = sound_fault before s (rw e refl) ∙ rw r refl
 
 -- a record that one of them refuses
 pub faulty_fault : (before : Option Before) (s : List ℕ) → stress_faulty s ≡ true

@@ -70,14 +70,6 @@ pub fn same_block(before: &Option<Before>, bytes: &[u8; 16]) -> bool
     le16(bytes, 0) == before.day && le16(bytes, 2) == before.scenario
 }
 
-// Whether none of 4, 5 and 6 refuses the record. Where it is of the block of the record before, day and scenario were tried with that one.
-#[tactic(auto, using(crate::proofs::Tests::unplaced))]
-fn sound(before: &Option<Before>, bytes: &[u8; 16]) -> bool
-    ensures { result ≡ not (stress_faulty bytes.now) }
-{
-    (same_block(before, bytes) || placed(bytes)) && filled(bytes)
-}
-
 // The first of 4, 5 and 6 that refuses the record, where one does.
 #[tactic(auto, using(crate::proofs::Tests::faulty_fault), unfolding(lists::specs::Checks::check))]
 fn fault(bytes: &[u8; 16]) -> Fault
@@ -93,26 +85,25 @@ fn fault(bytes: &[u8; 16]) -> Fault
     Fault::Excessive
 }
 
-// "Day, scenario, member strictly rise as a triple."
+// Whether the record's block follows that of the record before.
 #[tactic(auto, unfolding(crate::specs::Stress::stress_rises))]
-fn rises(before: &Option<Before>, bytes: &[u8; 16]) -> bool
+fn opens_later(before: &Option<Before>, bytes: &[u8; 16]) -> bool
+    requires { same_block before.now bytes.now ≡ false }
     ensures { result ≡ stress_rises before.now bytes.now }
 {
-    let Some(before) = before else {
+    let Some(last) = before else {
         return true;
     };
-    (before.day, before.scenario, before.member) < (le16(bytes, 0), le16(bytes, 2), bytes[4])
+    (last.day, last.scenario) < (le16(bytes, 0), le16(bytes, 2))
 }
 
-// The weak flags of the record's block that stand before it.
-fn flags_before(before: &Option<Before>, bytes: &[u8; 16]) -> u8
-    ensures is { result ≡ flags_before before.now bytes.now }
-    ensures most { result ≤ weak_limit }
+// Whether the record's member rises above that of the record before, which is of the same block.
+#[tactic(auto, unfolding(crate::specs::Stress::stress_rises))]
+fn rises_within(last: Before, bytes: &[u8; 16]) -> bool
+    requires { same_block (Some last) bytes.now ≡ true }
+    ensures { result ≡ stress_rises (Some last) bytes.now }
 {
-    match before {
-        Some(last) if same_block(before, bytes) => last.flags,
-        _ => 0,
-    }
+    last.member < bytes[4]
 }
 
 // What stands before the next record: this one, and the weak flags of its block up to it.
@@ -129,18 +120,14 @@ fn passed(flags: u8, bytes: &[u8; 16]) -> Before
     }
 }
 
-// The record of these bytes, after what stands before it.
-#[tactic(auto, using(crate::proofs::Tests::sound_fault, crate::proofs::Laws::sound_weak), unfolding(lists::specs::Checks::check))]
-pub fn read_loss(before: &Option<Before>, bytes: &[u8; 16]) -> Result<Loss, Fault>
-    ensures { result ≡ answered (stress_fault before.now bytes.now) (loss_of before.now bytes.now) }
+// A record that rises, and that none of 4, 5 and 6 refuses: 8 is left. `flags` are those of its block before it.
+#[tactic(auto, using(crate::proofs::Tests::rising_fault, crate::proofs::Laws::sound_weak), unfolding(lists::specs::Checks::check))]
+fn counted(flags: u8, bytes: &[u8; 16]) -> Result<Loss, Fault>
+    requires sound { stress_faulty bytes.now ≡ false }
+    requires few { flags ≤ weak_limit }
+    ensures { (before : Option Before) → stress_rises before bytes.now ≡ true → flags ≡ flags_before before bytes.now → result ≡ answered (stress_fault before bytes.now) (loss_of before bytes.now) }
 {
-    if !sound(before, bytes) {
-        return Err(fault(bytes));
-    }
-    if !rises(before, bytes) {
-        return Err(Fault::NotRising);
-    }
-    let flags = flags_before(before, bytes) + bytes[5];
+    let flags = flags + bytes[5];
     if WEAK_LIMIT < u64::from(flags) {
         return Err(Fault::SixthWeak);
     }
@@ -149,4 +136,44 @@ pub fn read_loss(before: &Option<Before>, bytes: &[u8; 16]) -> Result<Loss, Faul
         weak: bytes[5] != 0,
         next: passed(flags, bytes),
     })
+}
+
+// A record that opens a block.
+#[tactic(auto, using(crate::proofs::Tests::unplaced, crate::proofs::Tests::sound_fault), unfolding(lists::specs::Checks::check))]
+fn first_of_block(before: &Option<Before>, bytes: &[u8; 16]) -> Result<Loss, Fault>
+    requires { same_block before.now bytes.now ≡ false }
+    ensures { result ≡ answered (stress_fault before.now bytes.now) (loss_of before.now bytes.now) }
+{
+    if !placed(bytes) || !filled(bytes) {
+        return Err(fault(bytes));
+    }
+    if !opens_later(before, bytes) {
+        return Err(Fault::NotRising);
+    }
+    counted(0, bytes)
+}
+
+// A further record of the block of the record before. Day and scenario were tried with that one.
+#[tactic(auto, using(crate::proofs::Tests::sound_fault), unfolding(lists::specs::Checks::check))]
+fn next_of_block(last: Before, bytes: &[u8; 16]) -> Result<Loss, Fault>
+    requires { same_block (Some last) bytes.now ≡ true }
+    ensures { result ≡ answered (stress_fault (Some last) bytes.now) (loss_of (Some last) bytes.now) }
+{
+    if !filled(bytes) {
+        return Err(fault(bytes));
+    }
+    if !rises_within(last, bytes) {
+        return Err(Fault::NotRising);
+    }
+    counted(last.flags, bytes)
+}
+
+// The record of these bytes, after what stands before it.
+pub fn read_loss(before: &Option<Before>, bytes: &[u8; 16]) -> Result<Loss, Fault>
+    ensures { result ≡ answered (stress_fault before.now bytes.now) (loss_of before.now bytes.now) }
+{
+    match before {
+        Some(last) if same_block(before, bytes) => next_of_block(*last, bytes),
+        _ => first_of_block(before, bytes),
+    }
 }

@@ -1,4 +1,3 @@
 -- The laws of records and sheets, which callers cite.
 pub mod Laws
 mod Reading
-mod Tests

@@ -34,6 +34,7 @@ impl Model for Columns {
 }
 
 // The columns of a sheet of no records.
+#[tactic(auto, using(crate::proofs::Laws::amounts_none))]
 pub fn no_columns() -> Columns
     ensures { result ≡ no_columns }
 {

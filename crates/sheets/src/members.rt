@@ -13,7 +13,7 @@ const MEMBERS: u32 = lists::MEMBER_LIMIT as u32;
 const MISSING: u32 = lists::MISSING_AMOUNT as u32;
 
 // The member and the three zero bytes after it are one number here.
-#[tactic(auto, using(crate::proofs::Tests::member_by_number))]
+#[tactic(auto, unfolding(crate::specs::Bytes::le32, crate::specs::Members::outside))]
 fn outside(bytes: &[u8; 16]) -> bool
     ensures { result ≡ outside bytes.now }
 {

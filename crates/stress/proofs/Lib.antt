@@ -1,3 +1,2 @@
--- The laws of stress records and stress sheets, which callers cite.
+-- The laws of stress records, which callers cite.
 pub mod Laws
-mod Tests

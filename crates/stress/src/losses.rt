@@ -26,7 +26,7 @@ fn placed(bytes: &[u8; 16]) -> bool
     !beyond(1, DAYS, u32::from(le16(bytes, 0))) & !beyond(1, SCENARIOS, u32::from(le16(bytes, 2)))
 }
 
-#[tactic(auto, using(crate::proofs::Tests::outside_by_number))]
+#[tactic(auto, unfolding(crate::specs::Stress::stress_outside, sheets::specs::Bytes::le16, sheets::specs::Bytes::le32))]
 fn outside(bytes: &[u8; 16]) -> bool
     ensures { result ≡ stress_outside bytes.now }
 {
@@ -49,7 +49,7 @@ fn loss_to_end(bytes: &[u8; 16]) -> u64
 
 // Whether none of 4, 5 and 6 refuses a record whose day and scenario are within their values. Bytes 8 to 15 as one number are the
 // loss where the last four are zero, and above every limit where they are not.
-#[tactic(auto, using(crate::proofs::Tests::filled_by_number))]
+#[tactic(auto, unfolding(crate::specs::Stress::stress_outside, crate::specs::Parts::stress_faulty, crate::specs::Parts::le64, sheets::specs::Bytes::le16, sheets::specs::Bytes::le32))]
 fn filled(bytes: &[u8; 16]) -> bool
     ensures { block_beyond bytes.now ≡ false → result ≡ not (stress_faulty bytes.now) }
 {
@@ -71,7 +71,7 @@ pub fn same_block(before: &Option<Before>, bytes: &[u8; 16]) -> bool
 }
 
 // The first of 4, 5 and 6 that refuses the record, where one does.
-#[tactic(auto, using(crate::proofs::Tests::faulty_fault), unfolding(lists::specs::Checks::check))]
+#[tactic(auto, unfolding(lists::specs::Checks::check, crate::specs::Stress::stress_fault, crate::specs::Parts::stress_faulty))]
 fn fault(bytes: &[u8; 16]) -> Fault
     requires { stress_faulty bytes.now ≡ true }
     ensures { (before : Option Before) → stress_fault before bytes.now ≡ Some result }
@@ -107,7 +107,7 @@ fn rises_within(last: Before, bytes: &[u8; 16]) -> bool
 }
 
 // What stands before the next record: this one, and the weak flags of its block up to it.
-#[tactic(auto, using(crate::proofs::Laws::stands_within))]
+#[tactic(auto, unfolding(crate::specs::Stress::stress_outside, crate::specs::Parts::stress_faulty))]
 fn passed(flags: u8, bytes: &[u8; 16]) -> Before
     requires { (stress_faulty bytes.now ≡ false) × (flags ≤ weak_limit) }
     ensures { (before : Option Before) → flags ≡ flags_before before bytes.now + weak_at bytes.now → result ≡ passed before bytes.now }
@@ -121,7 +121,7 @@ fn passed(flags: u8, bytes: &[u8; 16]) -> Before
 }
 
 // A record that rises, and that none of 4, 5 and 6 refuses: 8 is left. `flags` are those of its block before it.
-#[tactic(auto, using(crate::proofs::Tests::rising_fault, crate::proofs::Laws::sound_weak), unfolding(lists::specs::Checks::check))]
+#[tactic(auto, unfolding(lists::specs::Checks::check, crate::specs::Stress::stress_outside, crate::specs::Stress::stress_fault, crate::specs::Parts::stress_faulty))]
 fn counted(flags: u8, bytes: &[u8; 16]) -> Result<Loss, Fault>
     requires sound { stress_faulty bytes.now ≡ false }
     requires few { flags ≤ weak_limit }
@@ -139,7 +139,7 @@ fn counted(flags: u8, bytes: &[u8; 16]) -> Result<Loss, Fault>
 }
 
 // A record that opens a block.
-#[tactic(auto, using(crate::proofs::Tests::unplaced, crate::proofs::Tests::sound_fault), unfolding(lists::specs::Checks::check))]
+#[tactic(auto, unfolding(lists::specs::Checks::check, crate::specs::Stress::stress_outside, crate::specs::Stress::stress_fault, crate::specs::Parts::stress_faulty))]
 fn first_of_block(before: &Option<Before>, bytes: &[u8; 16]) -> Result<Loss, Fault>
     requires { same_block before.now bytes.now ≡ false }
     ensures { result ≡ answered (stress_fault before.now bytes.now) (loss_of before.now bytes.now) }
@@ -154,7 +154,7 @@ fn first_of_block(before: &Option<Before>, bytes: &[u8; 16]) -> Result<Loss, Fau
 }
 
 // A further record of the block of the record before. Day and scenario were tried with that one.
-#[tactic(auto, using(crate::proofs::Tests::sound_fault), unfolding(lists::specs::Checks::check))]
+#[tactic(auto, unfolding(lists::specs::Checks::check, crate::specs::Stress::stress_fault, crate::specs::Parts::stress_faulty))]
 fn next_of_block(last: Before, bytes: &[u8; 16]) -> Result<Loss, Fault>
     requires { same_block (Some last) bytes.now ≡ true }
     ensures { result ≡ answered (stress_fault (Some last) bytes.now) (loss_of (Some last) bytes.now) }

@@ -1,38 +1,42 @@
 -- What is known of a default that 11 to 15, 21 and 22 do not refuse.
 use Prim.Native.Nat.{ℕ, ◌+◌, ◌*◌, ◌≤◌, ◌<◌}
-use mathlib.Core.Path.{◌≡◌, ap, sym, ◌∙◌}
+use mathlib.Core.Path.{◌≡◌, refl, ap, sym, ◌∙◌}
 use mathlib.Core.Bool.{false, not}
-use mathlib.Core.List.{List, [], ◌∷◌}
+use mathlib.Core.List.{List, [], ◌∷◌, map}
 use native.Mathlib.Omega.{arith}
 use borrow.Author.Tests.{ltb-false, eqb-true, not-false}
 use lib.Dec.{eqb, ltb}
-use lib.ListN.{length, take}
+use lib.ListN.{length}
 use lib.Seq.{take_all}
+use Rattle.std.specs.Prelude.{Option, None}
+use Rattle.std.specs.Option.{option_or}
+use Rattle.std.specs.List.{range_with_len}
 use Rattle.lists.specs.Limits.{member_limit, pool_limit, sum_limit}
 use Rattle.lists.specs.Sums.{total}
-use Rattle.lists.specs.Checks.{check}
-use Rattle.lists.proofs.Checks.{Row, row-end, row-check, check_past, neither}
-use Rattle.figures.specs.Figures.{figure, absent, in_default, others}
-use Rattle.admission.specs.Admission.{misranked, unready, admission, losses_of, miscounted, excessive_losses, pools_unready, pools_misranked, pools_admission}
+use Rattle.lists.proofs.Checks.{check_past, neither}
+use Rattle.refusal.specs.declared.Refusal.{Refusal}
+use Rattle.figures.specs.declared.Status.{Status}
+use Rattle.figures.specs.Figures.{status_at, others}
+use Rattle.admission.specs.Admission.{misranked, unready, admission, loss_of, losses_of, miscounted, excessive_losses, pools_unready, pools_misranked, losses_admission, pools_admission, amount_admission}
 use Rattle.admission.specs.declared.Pools.{Pools}
-use Rattle.admission.proofs.Passed.{standing-row, passes}
+use Rattle.admission.proofs.Passed.{check_or, standing_or, passes}
 
 -- `slip` is how many numbers are lent
-module _ (status : List ℕ) (member loss : ℕ) (ranks : List ℕ) (slip : ℕ) where
+module _ (status : List Status) (member loss : ℕ) (ranks : List ℕ) (slip : ℕ) where
   pub record Admitted : Type 0 where
-    pub present : figure status member ≡ absent → ⊥
-    pub not_in-default : figure status member ≡ in_default → ⊥
+    pub present : status_at status member ≡ Status.Absent → ⊥
+    pub not_in-default : status_at status member ≡ Status.InDefault → ⊥
     pub loss_fits : loss ≤ sum_limit
     pub ranks_length : length ranks ≡ member_limit
     pub slip-length : member_limit + member_limit ≤ slip
     pub well_ranked : misranked (others status member) ranks ≡ false
 
-  pub admitted : (rest : ℕ) → admission status member loss ranks slip rest ≡ 0 → Admitted
+  pub admitted : (rest : Option Refusal) → admission status member loss ranks slip rest ≡ None → Admitted
   admitted rest e =
       let s = passes status member _ e in
-      let c = check_past (ltb sum_limit loss) 13 _ (λ q. omega arith) s.rest-none in
-      let d = check_past (unready (length ranks) slip) 14 _ (λ q. omega arith) c.1 in
-      let f = check_past (misranked (others status member) ranks) 15 rest (λ q. omega arith) d.1 in
+      let c = check_past (ltb sum_limit loss) _ _ (λ q. cc) s.rest-none in
+      let d = check_past (unready (length ranks) slip) _ _ (λ q. cc) c.1 in
+      let f = check_past (misranked (others status member) ranks) _ rest (λ q. cc) d.1 in
       record {
         present = s.present;
         not_in-default = s.not_in-default;
@@ -42,26 +46,29 @@ module _ (status : List ℕ) (member loss : ℕ) (ranks : List ℕ) (slip : ℕ)
         well_ranked = f.0;
       }
 
-  -- the number that 11 to 15 give alone, and the one that they give with the rest behind them
-  pub admission-row : (rest : ℕ) → Row (λ n. n) rest (admission status member loss ranks slip 0) (admission status member loss ranks slip rest)
-  admission-row rest =
-      standing-row rest status member _ _
-      (row-check (λ n. n) rest _ 13 (omega arith)
-      (row-check (λ n. n) rest _ 14 (omega arith)
-      (row-check (λ n. n) rest _ 15 (omega arith)
-      (row-end (λ n. n) rest))))
+  -- what 11 to 15 answer, and what is behind them
+  pub admission_or : (rest : Option Refusal) → admission status member loss ranks slip rest ≡ option_or (admission status member loss ranks slip None) rest
+  admission_or rest =
+      standing_or rest status member _ _
+      (check_or rest _ _ _ _
+      (check_or rest _ _ _ _
+      (check_or rest _ _ _ _ refl)))
+
+-- a payment's and a replenishment's
+pub amount_admission_or : (status : List Status) (member amount most : ℕ) (refusal : Refusal) (rest : Option Refusal)
+    → amount_admission status member amount most refusal rest ≡ option_or (amount_admission status member amount most refusal None) rest
+amount_admission_or status member amount most refusal rest = standing_or rest status member _ _ (check_or rest _ _ _ _ refl)
 
 -- with pools ------------------------------------------------------------------------
 
--- the number that 13 and 22 give alone, and the one that they give with the rest behind them
-pub losses-row : (losses : List ℕ) (rest : ℕ)
-    → Row (λ n. n) rest (check (excessive_losses losses) 13 (check (ltb sum_limit (total losses)) 22 0)) (check (excessive_losses losses) 13 (check (ltb sum_limit (total losses)) 22 rest))
-losses-row losses rest = row-check (λ n. n) rest _ 13 (omega arith) (row-check (λ n. n) rest _ 22 (omega arith) (row-end (λ n. n) rest))
+-- what 13 and 22 answer, and what is behind them
+pub losses_admission_or : (losses : List ℕ) (n a rest : Option Refusal) → a ≡ option_or n rest → losses_admission losses a ≡ option_or (losses_admission losses n) rest
+losses_admission_or losses n a rest e = check_or rest _ _ _ _ (check_or rest _ _ _ _ e)
 
-module _ (status : List ℕ) (member : ℕ) (pools : Pools) (ranks : List ℕ) (slip : ℕ) where
+module _ (status : List Status) (member : ℕ) (pools : Pools) (ranks : List ℕ) (slip : ℕ) where
   pub record PoolsAdmitted : Type 0 where
-    pub present : figure status member ≡ absent → ⊥
-    pub not_in-default : figure status member ≡ in_default → ⊥
+    pub present : status_at status member ≡ Status.Absent → ⊥
+    pub not_in-default : status_at status member ≡ Status.InDefault → ⊥
     pub some : 0 < pools.count
     pub few : pools.count ≤ pool_limit
     pub each_fits : excessive_losses (losses_of pools) ≡ false
@@ -70,14 +77,14 @@ module _ (status : List ℕ) (member : ℕ) (pools : Pools) (ranks : List ℕ) (
     pub slip-length : member_limit + member_limit ≤ slip
     pub well_ranked : pools_misranked (others status member) ranks pools.count ≡ false
 
-  pub pools_admitted : (rest : ℕ) → pools_admission status member pools ranks slip rest ≡ 0 → PoolsAdmitted
+  pub pools_admitted : (rest : Option Refusal) → pools_admission status member pools ranks slip rest ≡ None → PoolsAdmitted
   pools_admitted rest e =
       let s = passes status member _ e in
-      let n = check_past (miscounted pools.count) 21 _ (λ q. omega arith) s.rest-none in
-      let c = check_past (excessive_losses (losses_of pools)) 13 _ (λ q. omega arith) n.1 in
-      let t = check_past (ltb sum_limit (total (losses_of pools))) 22 _ (λ q. omega arith) c.1 in
-      let d = check_past (pools_unready pools.count (length ranks) slip) 14 _ (λ q. omega arith) t.1 in
-      let f = check_past (pools_misranked (others status member) ranks pools.count) 15 rest (λ q. omega arith) d.1 in
+      let n = check_past (miscounted pools.count) _ _ (λ q. cc) s.rest-none in
+      let c = check_past (excessive_losses (losses_of pools)) _ _ (λ q. cc) n.1 in
+      let t = check_past (ltb sum_limit (total (losses_of pools))) _ _ (λ q. cc) c.1 in
+      let d = check_past (pools_unready pools.count (length ranks) slip) _ _ (λ q. cc) t.1 in
+      let f = check_past (pools_misranked (others status member) ranks pools.count) _ rest (λ q. cc) d.1 in
       let counted = neither (ltb pools.count 1) _ n.0 in
       record {
         present = s.present;
@@ -91,23 +98,21 @@ module _ (status : List ℕ) (member : ℕ) (pools : Pools) (ranks : List ℕ) (
         well_ranked = f.0;
       }
 
-  -- the number that 11 to 15, 21 and 22 give alone, and the one that they give with the rest behind them
-  pub pools-admission-row : (rest : ℕ) → Row (λ n. n) rest (pools_admission status member pools ranks slip 0) (pools_admission status member pools ranks slip rest)
-  pools-admission-row rest =
-      standing-row rest status member _ _
-      (row-check (λ n. n) rest _ 21 (omega arith)
-      (row-check (λ n. n) rest _ 13 (omega arith)
-      (row-check (λ n. n) rest _ 22 (omega arith)
-      (row-check (λ n. n) rest _ 14 (omega arith)
-      (row-check (λ n. n) rest _ 15 (omega arith)
-      (row-end (λ n. n) rest))))))
+  -- what 11 to 15, 21 and 22 answer, and what is behind them
+  pub pools_admission_or : (rest : Option Refusal) → pools_admission status member pools ranks slip rest ≡ option_or (pools_admission status member pools ranks slip None) rest
+  pools_admission_or rest =
+      standing_or rest status member _ _
+      (check_or rest _ _ _ _
+      (losses_admission_or (losses_of pools) _ _ rest
+      (check_or rest _ _ _ _
+      (check_or rest _ _ _ _ refl))))
 
   -- with one pool it is admitted as document 01 has it
-  pub admitted_one : pools.count ≡ 1 → PoolsAdmitted → Admitted status member pools.loss1 ranks slip
+  pub admitted_one : pools.count ≡ 1 → PoolsAdmitted → Admitted status member (loss_of pools 0) ranks slip
   unfolding pools_misranked
   admitted_one one a =
       let l : length ranks ≡ member_limit = omega (arith, a.ranks_length, one) in
-      let only : losses_of pools ≡ pools.loss1 ∷ [] = ap (λ (n : ℕ). take n (pools.loss1 ∷ pools.loss2 ∷ pools.loss3 ∷ pools.loss4 ∷ [])) one in
+      let only : losses_of pools ≡ loss_of pools 0 ∷ [] = ap (λ (n : ℕ). map (loss_of pools) (range_with_len 0 n)) one in
       record {
         present = a.present;
         not_in-default = a.not_in-default;

@@ -6,14 +6,15 @@ use mathlib.Core.List.{List, [], ◌∷◌}
 use native.Mathlib.Numerals.{add-one}
 use native.Mathlib.Omega.{arith}
 use borrow.Author.Tests.{ltb-false}
-use lib.Dec.{eqb, ltb}
-use lib.ListN.{length, get_or, drop, length-map, drop_of_length-le}
+use lib.Dec.{ltb}
+use lib.ListN.{length, get_or, drop, drop_of_length-le}
 use lib.Seq.{drop-cons}
 use Rattle.lists.specs.Limits.{rank_limit}
 use Rattle.lists.specs.Sums.{keep}
 use Rattle.lists.proofs.Checks.{neither, and_right}
-use Rattle.figures.specs.Figures.{live, live_in}
-use Rattle.figures.proofs.Figures.{live_at}
+use Rattle.figures.specs.declared.Status.{Status}
+use Rattle.figures.specs.Figures.{is_live, live_in}
+use Rattle.figures.proofs.Figures.{live_at, length-live}
 use Rattle.admission.specs.Admission.{misranked}
 
 -- where no rank is refused, each rank that is read is 1 to the limit
@@ -37,15 +38,15 @@ ranks_fit (b ∷ read) (rank ∷ ranks) e (suc k) = ranks_fit read ranks (neithe
 
 -- the ranks that are read, one a turn -----------------------------------------------
 
-module _ (status : List ℕ) where
+module _ (status : List Status) where
   pub misranked_step : (ranks : List ℕ) (i : ℕ) → i < length status → i < length ranks
       → misranked (drop i (live_in status)) (drop i ranks)
-      ≡ ((eqb live (get_or status i 0) && (ltb (get_or ranks i 0) 1 || ltb rank_limit (get_or ranks i 0))) || misranked (drop (i + 1) (live_in status)) (drop (i + 1) ranks))
+      ≡ ((is_live (get_or status i Status.Absent) && (ltb (get_or ranks i 0) 1 || ltb rank_limit (get_or ranks i 0))) || misranked (drop (i + 1) (live_in status)) (drop (i + 1) ranks))
   unfolding misranked
   misranked_step ranks i h k =
-      let m = live_at status i h in
-      rw (← m.1, add-one, drop-cons (live_in status) i false m.0, drop-cons ranks i 0)
+      let m : i < length (live_in status) = omega (arith, length-live status) in
+      rw (← live_at status i, add-one, drop-cons (live_in status) i false m, drop-cons ranks i 0)
 
   pub misranked-end : (ranks : List ℕ) (i : ℕ) → length status ≤ i → misranked (drop i (live_in status)) (drop i ranks) ≡ false
   unfolding misranked
-  misranked-end ranks i h = rw (drop_of_length-le (live_in status) {i = i} (omega (arith, length-map status (eqb live))))
+  misranked-end ranks i h = rw (drop_of_length-le (live_in status) {i = i} (omega (arith, length-live status)))

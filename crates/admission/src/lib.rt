@@ -2,39 +2,55 @@
 // the console says no".
 #![tactic(auto)]
 
-ghost use Rattle.std.specs.Prelude.{◌≡◌, false, ◌||◌, ◌&&◌, ◌*◌, ◌≤◌, eqb, ltb, length, take};
+ghost use Rattle.std.specs.Prelude.{◌≡◌, false, ◌||◌, ◌&&◌, ◌+◌, ◌*◌, ◌≤◌, ◌<◌, eqb, ltb, length, take, None};
 ghost use Rattle.lists.specs.Checks.{check};
 ghost use Rattle.lists.specs.Limits.{member_limit, rank_limit, pool_limit, sum_limit};
 ghost use Rattle.lists.specs.Sums.{total};
-ghost use Rattle.figures.specs.Figures.{live, live_in};
-ghost use Rattle.admission.specs.Admission.{standing, misranked, losses_of, miscounted, excessive_losses, pools_unready, pools_misranked, pools_admission, unfit, owing};
+ghost use Rattle.refusal.specs.Refusal.{answered};
+ghost use Rattle.figures.specs.Figures.{is_live, live_in};
+ghost use Rattle.admission.specs.Admission.{standing, misranked, losses_of, pool_ranks, miscounted, excessive_losses, pools_unready, pools_misranked, losses_admission, pools_admission, unfit, amount_admission, owing};
 
-use figures::{ABSENT, IN_DEFAULT, LIVE, defaulted, status_at};
+use figures::{Status, defaulted, status_at};
 use lists::{MEMBER_LIMIT, POOL_LIMIT, RANK_LIMIT, SUM_LIMIT};
+use refusal::Refusal;
 
-// What a default names: how many pools, and the loss of each. Of the four losses as many are read as it counts.
-#[derive(Clone, Copy)]
+/// What a default names: how many pools, and the loss of each. Of the four losses as many are read as it counts.
+#[derive(Clone, Copy, Debug, PartialEq, Eq)]
 pub struct Pools {
     pub count: usize,
-    pub loss1: u64,
-    pub loss2: u64,
-    pub loss3: u64,
-    pub loss4: u64,
+    pub losses: [u64; 4],
 }
 
-// 11 and 12: the number of the one that holds, 0 where neither does.
-pub fn standing(status: &[u8; 64], member: u64) -> u8
-    requires { length status.now ≡ member_limit }
-    ensures { result ≡ standing status.now member 0 }
+impl Pools {
+    /// The losses of the pools that are named.
+    pub fn losses(&self) -> &[u64]
+        requires { self.now.count ≤ pool_limit }
+        ensures value { result.now ≡ losses_of self.now }
+        ensures len { length result.now ≡ self.now.count }
+    {
+        &self.losses[..self.count]
+    }
+
+    /// The losses together: none is above its limit, so that their sum has 64 bits.
+    pub fn together(&self) -> u64
+        requires few { self.now.count ≤ pool_limit }
+        requires each_fits { excessive_losses (losses_of self.now) ≡ false }
+        ensures { result ≡ total (losses_of self.now) }
+    {
+        together(self.losses())
+    }
+}
+
+// 11 and 12
+#[tactic(auto, unfolding(lists::specs::Checks::check))]
+pub fn standing(status: &[Status; 64], member: u64) -> Result<(), Refusal>
+    ensures { result ≡ answered (standing status.now member None) tt }
 {
-    let found = status_at(status, member);
-    if found == ABSENT {
-        return 11;
+    match status_at(status, member) {
+        Status::Absent => Err(Refusal::Unregistered),
+        Status::InDefault => Err(Refusal::InDefault),
+        Status::Live => Ok(()),
     }
-    if found == IN_DEFAULT {
-        return 12;
-    }
-    0
 }
 
 // 21
@@ -45,55 +61,33 @@ fn miscounted(count: usize) -> bool
 }
 
 // 13, tried on each pool.
-fn excessive(losses: &[u64; 4], count: usize) -> bool
-    requires { (length losses.now ≡ pool_limit) × (count ≤ pool_limit) }
-    ensures { result ≡ excessive_losses (take count losses.now) }
+fn excessive(losses: &[u64]) -> bool
+    ensures { result ≡ excessive_losses losses.now }
 {
-    let mut found = false;
-    let mut p = 0;
-    while p < count {
-        found = found | (SUM_LIMIT < losses[p]);
-        p += 1;
-    }
-    found
+    losses.iter().any(|loss| SUM_LIMIT < *loss)
 }
 
-// The losses together: none is above its limit, so that their sum has 64 bits.
-fn together(losses: &[u64; 4], count: usize) -> u64
-    requires { (length losses.now ≡ pool_limit) × (count ≤ pool_limit) × (excessive_losses (take count losses.now) ≡ false) }
-    ensures { result ≡ total (take count losses.now) }
+fn together(losses: &[u64]) -> u64
+    requires few { length losses.now ≤ pool_limit }
+    requires each_fits { excessive_losses losses.now ≡ false }
+    ensures { result ≡ total losses.now }
 {
-    let mut sum: u64 = 0;
-    let mut p = 0;
-    while p < count {
-        sum += losses[p];
-        p += 1;
-    }
-    sum
+    losses.iter().sum()
 }
 
-// The losses of all pools, added up.
-pub fn all_losses(pools: Pools) -> u64
-    requires { (pools.count ≤ pool_limit) × (excessive_losses (losses_of pools) ≡ false) }
-    ensures { result ≡ total (losses_of pools) }
+// 13 and 22
+#[tactic(auto, unfolding(lists::specs::Checks::check))]
+fn losses_admission(losses: &[u64]) -> Result<(), Refusal>
+    requires { length losses.now ≤ pool_limit }
+    ensures { result ≡ answered (losses_admission losses.now None) tt }
 {
-    let losses = [pools.loss1, pools.loss2, pools.loss3, pools.loss4];
-    together(&losses, pools.count)
-}
-
-// 13 and 22: the number of the one that holds, 0 where neither does.
-fn losses_refusal(pools: Pools) -> u8
-    requires { pools.count ≤ pool_limit }
-    ensures { result ≡ check (excessive_losses (losses_of pools)) 13 (check (ltb sum_limit (total (losses_of pools))) 22 0) }
-{
-    let losses = [pools.loss1, pools.loss2, pools.loss3, pools.loss4];
-    if excessive(&losses, pools.count) {
-        return 13;
+    if excessive(losses) {
+        return Err(Refusal::ExcessiveLoss);
     }
-    if SUM_LIMIT < together(&losses, pools.count) {
-        return 22;
+    if SUM_LIMIT < together(losses) {
+        return Err(Refusal::ExcessiveLosses);
     }
-    0
+    Ok(())
 }
 
 // 14
@@ -104,67 +98,71 @@ fn unready(pools: usize, ranks: usize, slip: usize) -> bool
     (ranks != MEMBER_LIMIT * pools) | (slip < MEMBER_LIMIT + MEMBER_LIMIT)
 }
 
-fn unranked(status: u8, rank: u8) -> bool
-    ensures { result ≡ (eqb live status && (ltb rank 1 || ltb rank_limit rank)) }
+fn unranked(status: Status, rank: u8) -> bool
+    ensures { result ≡ (is_live status && (ltb rank 1 || ltb rank_limit rank)) }
 {
-    (LIVE == status) & ((rank < 1) | (RANK_LIMIT < rank))
+    (status == Status::Live) & ((rank < 1) | (RANK_LIMIT < rank))
 }
 
 // 15 in one pool: only the ranks of the live members are read.
-fn misranked<'a>(status: &'a [u8; 64], ranks: &'a [u8]) -> bool
-    requires { (length status.now ≡ member_limit) × (length ranks.now ≡ member_limit) }
+fn misranked(status: &[Status; 64], ranks: &[u8]) -> bool
+    requires { length ranks.now ≡ member_limit }
     ensures { result ≡ misranked (live_in status.now) ranks.now }
 {
+    // By index, and to the end: many ranks are tested at once, which a zip or an `any` prevents.
     let mut found = false;
-    let mut i = 0;
-    while i < 64 {
-        found = found | unranked(status[i], ranks[i]);
-        i += 1;
+    for i in 0..64 {
+        found |= unranked(status[i], ranks[i]);
     }
     found
+}
+
+/// "64 bytes a pool": the ranks of pool p, counted from 0.
+pub fn pool_ranks(ranks: &[u8], p: usize) -> &[u8]
+    requires { (p < pool_limit) × (member_limit * p + member_limit ≤ length ranks.now) }
+    ensures value { result.now ≡ pool_ranks ranks.now p }
+    ensures len { length result.now ≡ member_limit }
+{
+    let at = MEMBER_LIMIT * p;
+    &ranks[at..at + MEMBER_LIMIT]
 }
 
 // 15, tried on each pool.
-fn pools_misranked<'a>(status: &'a [u8; 64], ranks: &'a [u8], count: usize) -> bool
-    requires { (length status.now ≡ member_limit) × (length ranks.now ≡ member_limit * count) × (count ≤ pool_limit) }
+fn pools_misranked(status: &[Status; 64], ranks: &[u8], count: usize) -> bool
+    requires { (length ranks.now ≡ member_limit * count) × (count ≤ pool_limit) }
     ensures { result ≡ pools_misranked (live_in status.now) ranks.now count }
 {
-    let mut found = false;
-    let mut p = 0;
-    while p < count {
-        let at = MEMBER_LIMIT * p;
-        found = found | misranked(status, &ranks[at..at + MEMBER_LIMIT]);
-        p += 1;
+    for p in 0..count {
+        if misranked(status, pool_ranks(ranks, p)) {
+            return true;
+        }
     }
-    found
+    false
 }
 
-// 11, 12, 21, 13, 22, 14 and 15 of a default: the number of the first that holds, 0 where none does.
+// 11, 12, 21, 13, 22, 14 and 15 of a default: the first that holds.
 #[tactic(auto, unfolding(lists::specs::Checks::check))]
-pub fn default_refusal(status: [u8; 64], member: u64, pools: Pools, ranks: &[u8], slip: usize) -> u8
-    requires { length status ≡ member_limit }
-    ensures { result ≡ pools_admission status member pools ranks.now slip 0 }
+pub fn default_admission(
+    status: [Status; 64],
+    member: u64,
+    pools: Pools,
+    ranks: &[u8],
+    slip: usize,
+) -> Result<(), Refusal>
+    ensures { result ≡ answered (pools_admission status member pools ranks.now slip None) tt }
 {
-    let found = standing(&status, member);
-    if 0 < found {
-        return found;
-    }
+    standing(&status, member)?;
     if miscounted(pools.count) {
-        return 21;
+        return Err(Refusal::Miscounted);
     }
-    let excess = losses_refusal(pools);
-    let short = unready(pools.count, ranks.len(), slip);
-    if 0 < excess {
-        return excess;
+    losses_admission(pools.losses())?;
+    if unready(pools.count, ranks.len(), slip) {
+        return Err(Refusal::Unready);
     }
-    if short {
-        return 14;
+    if pools_misranked(&defaulted(status, member), ranks, pools.count) {
+        return Err(Refusal::Misranked);
     }
-    let others = defaulted(status, member);
-    if pools_misranked(&others, ranks, pools.count) {
-        return 15;
-    }
-    0
+    Ok(())
 }
 
 fn unfit(amount: u64, most: u64) -> bool
@@ -173,33 +171,27 @@ fn unfit(amount: u64, most: u64) -> bool
     (amount == 0) | (most < amount)
 }
 
-// 11, 12, and the refusal of an unfit amount by its number, 16 or 17: the first that holds, 0 where none does.
+// 11, 12, and the refusal of an unfit amount, 16 or 17: the first that holds.
 #[tactic(auto, unfolding(lists::specs::Checks::check))]
-pub fn amount_refusal(status: &[u8; 64], member: u64, amount: u64, most: u64, number: u8) -> u8
-    requires { length status.now ≡ member_limit }
-    ensures { result ≡ standing status.now member (check (unfit amount most) number 0) }
+pub fn amount_admission(
+    status: &[Status; 64],
+    member: u64,
+    amount: u64,
+    most: u64,
+    refusal: Refusal,
+) -> Result<(), Refusal>
+    ensures { result ≡ answered (amount_admission status.now member amount most refusal None) tt }
 {
-    let found = standing(status, member);
-    if 0 < found {
-        return found;
-    }
+    standing(status, member)?;
     if unfit(amount, most) {
-        return number;
+        return Err(refusal);
     }
-    0
+    Ok(())
 }
 
 // 18
 pub fn owing(outstanding: &[u32; 64]) -> bool
-    requires { length outstanding.now ≡ member_limit }
     ensures { result ≡ owing outstanding.now }
 {
-    let mut i = 0;
-    while i < 64 {
-        if 0 < outstanding[i] {
-            return true;
-        }
-        i += 1;
-    }
-    false
+    outstanding.iter().any(|due| 0 < *due)
 }

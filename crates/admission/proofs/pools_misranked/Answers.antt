@@ -1,18 +1,16 @@
-use mathlib.Core.Path.{refl, ap, ◌∙◌}
+use mathlib.Core.Path.{refl, sym}
 use native.Mathlib.Omega.{arith}
-use borrow.Author.Rules.{rules}
 use Rattle.figures.specs.Figures.{live_in}
-use Rattle.admission.specs.Admission.{misranked, pools_misranked}
-use Rattle.admission.proofs.EachPool.{pool-part, misranked_turn}
+use Rattle.admission.specs.Admission.{pools_misranked}
+use Rattle.admission.proofs.EachPool.{misranked_in, misranked_more}
 use Rattle.admission.proofs.pools_misranked.Goals as goal
 
 pub loop-p-init : goal.loop-p-init
 unfolding pools_misranked
-loop-p-init c = (search rules, refl)
+loop-p-init c = refl
+
+pub returns-then-misranked : goal.returns-then-misranked
+returns-then-misranked c = sym (misranked_in (live_in c.args.status.now) c.args.ranks.now c.args.count c.loop-p.p (omega arith) (cc))
 
 pub loop-p-preserved : goal.loop-p-preserved
-loop-p-preserved c =
-    let a = c.args in (
-      omega arith,
-      misranked_turn (live_in a.status.now) a.ranks.now c.loop-p.p _ _ c.loop-p.invariant.1 (c.misranked-found.ensures ∙ ap (misranked (live_in a.status.now)) (pool-part a.ranks.now c.loop-p.p)),
-    )
+loop-p-preserved c = misranked_more (live_in c.args.status.now) c.args.ranks.now c.loop-p.p c.loop-p.invariant (cc)

@@ -1,12 +1,15 @@
+use Prim.Native.Nat.{◌<◌, ◌^◌}
 use native.Mathlib.Omega.{arith}
-use Rattle.admission.proofs.EachPool.{total_counted, total_fits}
+use Rattle.std.proofs.Common.{rules}
+use Rattle.std.specs.List.{sum}
+use Rattle.admission.proofs.EachPool.{total_sum, total_fits}
 use Rattle.admission.proofs.together.Goals as goal
 
-pub overflow_add-sum : goal.overflow_add-sum
-overflow_add-sum c =
-    let a = c.args in
-    omega (
-      arith,
-      total_counted a.losses.now a.count (omega arith) c.loop-p.p (omega arith),
-      total_fits a.losses.now a.count (omega arith) c.requires.2,
-    )
+pub sum-requires-clause-fits : goal.sum-requires-clause-fits
+sum-requires-clause-fits c =
+    let losses = c.args.losses.now in
+    let fits : sum losses < 2 ^ 64 = omega (arith, total_sum losses, total_fits losses c.requires.each_fits) in
+    search rules
+
+pub returns : goal.returns
+returns c = search (rules, total_sum)

@@ -11,9 +11,8 @@ use borrow.Author.Tests.{ltb-false}
 use lib.Dec.{ltb}
 use lib.ListN.{length, get_or, take, drop, length-drop}
 use lib.Seq.{length-take-le, get_or-take}
-use Rattle.std.specs.List.{sum, list_any}
+use Rattle.std.specs.List.{list_any}
 use Rattle.std.proofs.lemmas.List.FromFn.{length-map-range_with_len, fill_by_all}
-use Rattle.std.proofs.lemmas.List.Recursion.{is_sum_by}
 use Rattle.lists.specs.Limits.{member_limit, sum_limit}
 use Rattle.lists.specs.Sums.{total}
 use Rattle.lists.proofs.Checks.{neither}
@@ -41,9 +40,6 @@ losses_fit (loss ∷ losses) e (suc k) = losses_fit losses (neither (ltb sum_lim
 
 pub total_fits : (losses : List ℕ) → excessive_losses losses ≡ false → total losses ≤ sum_limit * length losses
 total_fits losses e = total_bound sum_limit losses (losses_fit losses e)
-
-pub total_sum : (xs : List ℕ) → total xs ≡ sum xs
-total_sum xs = is_sum_by total (λ x. x) refl (λ _ _. refl) xs
 
 -- outstanding calls --------------------------------------------------------------------
 

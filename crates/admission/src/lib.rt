@@ -10,7 +10,7 @@ ghost use Rattle.refusal.specs.Refusal.{answered};
 ghost use Rattle.figures.specs.Figures.{is_live, live_in};
 ghost use Rattle.admission.specs.Admission.{standing, misranked, losses_of, pool_ranks, miscounted, excessive_losses, pools_unready, pools_misranked, losses_admission, pools_admission, unfit, amount_admission, owing};
 
-use figures::{Status, defaulted, status_at};
+use figures::{Status, defaulted, status_at, total};
 use lists::{MEMBER_LIMIT, POOL_LIMIT, RANK_LIMIT, SUM_LIMIT};
 use refusal::Refusal;
 
@@ -32,12 +32,13 @@ impl Pools {
     }
 
     /// The losses together: none is above its limit, so that their sum has 64 bits.
+    #[tactic(auto, using(crate::proofs::EachPool::total_fits))]
     pub fn together(&self) -> u64
         requires few { self.now.count ≤ pool_limit }
         requires each_fits { excessive_losses (losses_of self.now) ≡ false }
         ensures { result ≡ total (losses_of self.now) }
     {
-        together(self.losses())
+        total(self.losses())
     }
 }
 
@@ -67,16 +68,8 @@ fn excessive(losses: &[u64]) -> bool
     losses.iter().any(|loss| SUM_LIMIT < *loss)
 }
 
-fn together(losses: &[u64]) -> u64
-    requires few { length losses.now ≤ pool_limit }
-    requires each_fits { excessive_losses losses.now ≡ false }
-    ensures { result ≡ total losses.now }
-{
-    losses.iter().sum()
-}
-
 // 13 and 22
-#[tactic(auto, unfolding(lists::specs::Checks::check))]
+#[tactic(auto, using(crate::proofs::EachPool::total_fits), unfolding(lists::specs::Checks::check))]
 fn losses_admission(losses: &[u64]) -> Result<(), Refusal>
     requires { length losses.now ≤ pool_limit }
     ensures { result ≡ answered (losses_admission losses.now None) tt }
@@ -84,7 +77,7 @@ fn losses_admission(losses: &[u64]) -> Result<(), Refusal>
     if excessive(losses) {
         return Err(Refusal::ExcessiveLoss);
     }
-    if SUM_LIMIT < together(losses) {
+    if SUM_LIMIT < total(losses) {
         return Err(Refusal::ExcessiveLosses);
     }
     Ok(())

@@ -9,8 +9,10 @@ use borrow.Author.Tests.{eqb-true, eqb-false}
 use lib.Dec.{eqb}
 use lib.ListN.{length, get_or, length-map, get_or-map, get_or-eq_default}
 use lib.Seq.{get_or-set_same, get_or-set_other}
+use Rattle.std.specs.List.{sum}
+use Rattle.std.proofs.lemmas.List.Recursion.{is_sum_by}
 use Rattle.lists.specs.Limits.{member_limit}
-use Rattle.lists.specs.Sums.{plus, minus, keep}
+use Rattle.lists.specs.Sums.{total, plus, minus, keep}
 use Rattle.lists.proofs.Sums.{get_or-plus, get_or-minus, get_or_zeros}
 use Rattle.figures.specs.declared.Status.{Status}
 use Rattle.figures.specs.declared.Status.TheVariants.{Absent}
@@ -103,6 +105,10 @@ figure-le xs ys h (suc k) = h k
 pub figure_bound : (xs : List ℕ) (b : ℕ) → ((k : ℕ) → get_or xs k 0 ≤ b) → (m : ℕ) → figure xs m ≤ b
 figure_bound xs b h zero = zero-le
 figure_bound xs b h (suc k) = h k
+
+-- the numbers of a list, added
+pub total_sum : (xs : List ℕ) → total xs ≡ sum xs
+total_sum xs = is_sum_by total (λ x. x) refl (λ _ _. refl) xs
 
 -- statuses -------------------------------------------------------------------------
 

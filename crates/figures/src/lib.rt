@@ -2,7 +2,7 @@
 // 400,000,000, so a register holds it in 32 bits; sums, and what hosts hand over and receive, have 64.
 #![tactic(auto)]
 
-ghost use Rattle.std.specs.Prelude.{◌≡◌, ◌||◌, ◌++◌, map, ℕ, ◌+◌, ◌-◌, ◌≤◌, ◌<◌, eqb, ltb, length, get_or, take, drop, cond};
+ghost use Rattle.std.specs.Prelude.{◌≡◌, ◌||◌, ◌++◌, map, ℕ, ◌+◌, ◌-◌, ◌^◌, ◌≤◌, ◌<◌, eqb, ltb, length, get_or, take, drop, cond};
 ghost use Rattle.lists.specs.Limits.{member_limit, amount_limit};
 ghost use Rattle.lists.specs.Sums.{total, plus, minus};
 ghost use Rattle.figures.specs.Figures.{of_member, figure, status_at, replace, status_of, is_live, of_live};
@@ -105,6 +105,14 @@ pub fn add_to(figures: &mut [u32; 64], amounts: &[u64; 64], whole: u64)
         return;
     }
     *figures = array::from_fn(|i| figures[i] + amounts[i] as u32);
+}
+
+// The amounts, added up.
+pub fn total(amounts: &[u64]) -> u64
+    requires { total amounts.now < 2 ^ 64 }
+    ensures { result ≡ total amounts.now }
+{
+    amounts.iter().sum()
 }
 
 // The figures put into a lent buffer from `start` on.

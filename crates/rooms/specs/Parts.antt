@@ -1,15 +1,12 @@
 -- What the parts of `rooms` promise each other and their callers. No rule of document 01 is here.
-use Rattle.std.specs.Prelude.{ℕ, ◌-◌, ◌≤◌, ◌≡◌, Bool, List, length, get_or}
-use Rattle.lists.specs.Limits.{member_limit, amount_limit}
+use Rattle.std.specs.Prelude.{ℕ, ◌-◌, ◌≤◌, ◌≡◌, Bool, List, get_or}
+use Rattle.lists.specs.Limits.{amount_limit}
 use Rattle.lists.specs.Sums.{total}
 use Rattle.split.specs.Split.{split_of, exceeds}
 use Rattle.rooms.specs.Rooms.{gives}
 
 -- what rooms are found with
-pub record Roomy (status most taken : List ℕ) : Type 0 where
-  pub status_length : length status ≡ member_limit
-  pub most_length : length most ≡ member_limit
-  pub taken_length : length taken ≡ member_limit
+pub record Roomy (most taken : List ℕ) : Type 0 where
   pub most_fits : (k : ℕ) → get_or most k 0 ≤ amount_limit
   pub taken_fits : (k : ℕ) → get_or taken k 0 ≤ get_or most k 0
 

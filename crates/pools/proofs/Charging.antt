@@ -5,17 +5,18 @@ use mathlib.Core.Bool.{Bool, true, false, cond}
 use mathlib.Core.List.{List, [], ◌∷◌, map}
 use native.Mathlib.Numerals.{add-one}
 use native.Mathlib.Omega.{arith}
-use lib.Dec.{eqb}
 use lib.ListN.{length, get_or, replicate, length-map, get_or-map}
 use lib.Seq.{take_all}
-use Rattle.lists.specs.Limits.{member_limit, rank_limit, amount_limit, allocation_limit}
+use Rattle.lists.specs.Limits.{member_limit, rank_limit, amount_limit}
 use Rattle.lists.specs.Sums.{total, plus, minus, keep}
 use Rattle.lists.proofs.Places.{map_same}
 use Rattle.lists.proofs.Sums.{total_step, total_zeros, single, length-keep, get_or-keep, keep-le, keep-keep, keep-minus, kept_mark, mark-within}
 use Rattle.split.specs.Split.{share_of, split_of}
 use Rattle.split.proofs.Laws.{exceeds-none}
 use Rattle.ranks.specs.Ranks.{charges_of}
-use Rattle.figures.specs.Figures.{live, live_in}
+use Rattle.figures.specs.declared.Status.{Status}
+use Rattle.figures.specs.Figures.{live_in}
+use Rattle.figures.proofs.Figures.{length-live}
 use Rattle.admission.specs.Admission.{misranked, pool_ranks}
 use Rattle.admission.proofs.EachPool.{length_pool-ranks, pool_well-ranked}
 use Rattle.admission.proofs.Ranked.{ranks-read}
@@ -47,7 +48,8 @@ undivided-le (suc p) (s ∷ sums) w = omega (arith, undivided-le p sums (w - sha
 
 -- pool by pool --------------------------------------------------------------------------
 
-module _ (sums status contribution ranks : List ℕ) (c : Poolable sums status contribution ranks) where
+module _ (sums : List ℕ) (status : List Status) (contribution ranks : List ℕ) (ls : length status ≡ member_limit) (lc : length contribution ≡ member_limit)
+    (c : Poolable sums status contribution ranks) where
   abbrev marks : List Bool
   marks = live_in status
 
@@ -56,7 +58,7 @@ module _ (sums status contribution ranks : List ℕ) (c : Poolable sums status c
 
   pub length_weights : length weights ≡ member_limit
   length_weights =
-      length-keep marks contribution (length-map status (eqb live) ∙ c.status_length ∙ sym c.contribution_length) ∙ c.contribution_length
+      length-keep marks contribution (length-live status ∙ ls ∙ sym lc) ∙ lc
 
   get_or-undivided : (p k : ℕ) → get_or (map (undivided p sums) contribution) k 0 ≡ undivided p sums (get_or contribution k 0)
   get_or-undivided p k =
@@ -82,8 +84,6 @@ module _ (sums status contribution ranks : List ℕ) (c : Poolable sums status c
           rest_fits = omega (arith, i.rest_is, up_to-placed sums weights ranks p (omega arith), c.sums_fit);
           chargeable =
               record {
-                status_length = c.status_length;
-                contribution_length = ap length i.left_is ∙ length-map contribution (undivided p sums) ∙ c.contribution_length;
                 ranks_length = length_pool-ranks ranks (length sums) c.ranks_length p h;
                 contribution_fits = λ k.
                     omega (
@@ -95,6 +95,7 @@ module _ (sums status contribution ranks : List ℕ) (c : Poolable sums status c
                     );
                 well_ranked = pool_well-ranked marks ranks (length sums) c.well_ranked p h;
               };
+          left_length = ap length i.left_is ∙ length-map contribution (undivided p sums) ∙ lc;
           charges_length = ap length i.charges_are ∙ length_up_to sums weights ranks length_weights c.ranks_length p (omega arith);
           charges_fit = λ k.
               omega (
@@ -131,30 +132,20 @@ module _ (sums status contribution ranks : List ℕ) (c : Poolable sums status c
           over_is = n.over_is;
         }
 
-    -- the same by the sum and the ranks that the code reads
-    module _ (sum : ℕ) (read : List ℕ) (s : sum ≡ get_or sums p 0) (r : read ≡ pool_ranks ranks p) where
-      pub divisible_so : Divisible sum status read d
-      divisible_so = rw (s, r) divisible
-
-      pub divided_so : (next : Division) → PoolCharged sum marks read d next → Divided (p + 1) sums status contribution ranks next
-      divided_so next n = divided_turn next (rw (s, r) at n)
-
   -- the tie ------------------------------------------------------------------------------
 
   abbrev charged : List ℕ
   charged = charges_up_to sums weights ranks (length sums)
 
   module _ (d : Division) (i : Divided (length sums) sums status contribution ranks d) (whole : ℕ) (w : whole ≡ total sums) where
-    pub tiable : Tiable whole status contribution d
+    pub tiable : Tiable whole contribution d
     unfolding charges_together
     tiable =
         record {
           whole_fits = omega (arith, c.sums_fit);
+          charges_length = ap length i.charges_are ∙ length_up_to sums weights ranks length_weights c.ranks_length (length sums) (omega arith);
           roomy =
               record {
-                status_length = c.status_length;
-                most_length = c.contribution_length;
-                taken_length = ap length i.charges_are ∙ length_up_to sums weights ranks length_weights c.ranks_length (length sums) (omega arith);
                 most_fits = c.contribution_fits;
                 taken_fits = λ k.
                     omega (
@@ -191,7 +182,7 @@ module _ (sums status contribution ranks : List ℕ) (c : Poolable sums status c
 
 -- the live members' contributions alone are divided ---------------------------------------
 
-module _ (sums status contribution ranks standing : List ℕ) (c : Poolable sums status contribution ranks) (e : standing ≡ keep (live_in status) contribution) where
+module _ (sums : List ℕ) (status : List Status) (contribution ranks standing : List ℕ) (c : Poolable sums status contribution ranks) (e : standing ≡ keep (live_in status) contribution) where
   pub standing_poolable : Poolable sums status standing ranks
   standing_poolable =
       rw e
@@ -199,8 +190,6 @@ module _ (sums status contribution ranks standing : List ℕ) (c : Poolable sums
         some = c.some;
         few = c.few;
         sums_fit = c.sums_fit;
-        status_length = c.status_length;
-        contribution_length = length_weights sums status contribution ranks c;
         ranks_length = c.ranks_length;
         contribution_fits = λ k. omega (arith, keep-le (live_in status) contribution k, c.contribution_fits k);
         well_ranked = c.well_ranked;
@@ -223,27 +212,23 @@ module _ (sums status contribution ranks standing : List ℕ) (c : Poolable sums
             ∙ sym (exceeds-none charges contribution (λ k. omega (arith, within k, keep-le (live_in status) contribution k)));
       }
 
--- every pool is charged, of the sums that the code counts
-pub divided_as : (count : ℕ) (taken sums status contribution ranks : List ℕ) (d : Division) → taken ≡ sums → length sums ≡ count → Divided count taken status contribution ranks d
-    → Divided (length sums) sums status contribution ranks d
-divided_as count taken sums status contribution ranks d e l i = rw (l, ← e) i
-
 -- before the first pool
-pub divided_start : (sums status contribution ranks : List ℕ) (whole : ℕ) → length contribution ≡ member_limit → length status ≡ member_limit → whole ≡ total sums
+pub divided_start : (sums : List ℕ) (status : List Status) (contribution ranks : List ℕ) (whole : ℕ) → length contribution ≡ member_limit → length status ≡ member_limit → whole ≡ total sums
     → Divided zero sums status contribution ranks (record { left = contribution; rest = whole; charges = replicate member_limit 0; total = 0; over = false })
 unfolding charges_up_to undivided
 divided_start sums status contribution ranks whole l s w =
     record {
       left_is = sym (map_same (undivided zero sums) (λ w. refl) contribution);
       rest_is = w;
-      charges_are = ap (λ (n : ℕ). replicate n 0) (sym (length-keep (live_in status) contribution (length-map status (eqb live) ∙ s ∙ sym l) ∙ l));
+      charges_are = ap (λ (n : ℕ). replicate n 0) (sym (length-keep (live_in status) contribution (length-live status ∙ s ∙ sym l) ∙ l));
       total_is = sym (total_zeros member_limit);
       over_is = refl;
     }
 
 -- one pool alone --------------------------------------------------------------------------
 
-module _ (sums status contribution ranks : List ℕ) (c : Poolable sums status contribution ranks) (one : length sums ≡ 1) where
+module _ (sums : List ℕ) (status : List Status) (contribution ranks : List ℕ) (ls : length status ≡ member_limit) (lc : length contribution ≡ member_limit)
+    (c : Poolable sums status contribution ranks) (one : length sums ≡ 1) where
   ranks_64 : length ranks ≡ member_limit
   ranks_64 = omega (arith, c.ranks_length)
 
@@ -252,28 +237,19 @@ module _ (sums status contribution ranks : List ℕ) (c : Poolable sums status c
       let e : pool_ranks ranks 0 ≡ ranks = take_all member_limit ranks (omega (arith, ranks_64)) in
       sym (ap (misranked (live_in status)) e) ∙ pool_well-ranked (live_in status) ranks (length sums) c.well_ranked 0 (omega arith)
 
-  pub alone : (whole : ℕ) → whole ≡ total sums → (whole ≤ allocation_limit) × Chargeable status contribution ranks
-  alone whole w = (
-    omega (arith, c.sums_fit),
-    record {
-      status_length = c.status_length;
-      contribution_length = c.contribution_length;
-      ranks_length = ranks_64;
-      contribution_fits = c.contribution_fits;
-      well_ranked = well;
-    },
-  )
+  pub alone : Chargeable status contribution ranks
+  alone = record { ranks_length = ranks_64; contribution_fits = c.contribution_fits; well_ranked = well }
 
   pub alone_so : (whole : ℕ) → whole ≡ total sums → charges_of whole (keep (live_in status) contribution) ranks ≡ charges_by_pools sums (keep (live_in status) contribution) ranks
   alone_so whole w =
       let ws : List ℕ = keep (live_in status) contribution in
       ap (λ (n : ℕ). charges_of n ws ranks) w
-      ∙ sym (one_pool_lem (total sums) ws ranks (length_weights sums status contribution ranks c) ranks_64 ranked)
+      ∙ sym (one_pool_lem (total sums) ws ranks (length_weights sums status contribution ranks ls lc c) ranks_64 ranked)
       ∙ ap (λ (xs : List ℕ). charges_by_pools xs ws ranks) (sym (single sums one))
     where
       ranked : (k : ℕ) → 0 < get_or (keep (live_in status) contribution) k 0 → (0 < get_or ranks k 0) × (get_or ranks k 0 ≤ rank_limit)
       ranked k h =
           let m = kept_mark (live_in status) contribution k h in
           ranks-read (live_in status) ranks well k
-          (omega (arith, mark-within (live_in status) k m, length-map status (eqb live), c.status_length, ranks_64))
+          (omega (arith, mark-within (live_in status) k m, length-live status, ls, ranks_64))
           m

@@ -1,23 +1,23 @@
 -- The laws of the sums of the pools.
 use Prim.Native.Nat.{ℕ, suc, ◌+◌, ◌-◌, ◌≤◌, ◌<◌, min}
 use mathlib.Core.Path.{◌≡◌, refl, ap, sym, ◌∙◌}
-use mathlib.Core.List.{List, [], ◌∷◌}
-use mathlib.Core.Logic.{⊎_elim}
-use native.Mathlib.Nat.{eq-zero-or-pos}
+use mathlib.Core.Bool.{Bool, true, false, cond}
+use mathlib.Core.List.{List, [], ◌∷◌, ◌++◌}
 use native.Mathlib.Omega.{arith}
+use borrow.Author.Tests.{ltb-true}
 use lib.Dec.{ltb}
 use lib.ListN.{length, get_or, take, drop, set, length-set, drop_of_length-le}
-use lib.Seq.{length-take-le, get_or-take, take-set-lt, get_or-set_same}
-use Rattle.lists.specs.Checks.{check}
-use Rattle.lists.specs.Limits.{pool_limit}
+use lib.Seq.{drop-set-lt, drop-drop, get_or-drop, get_or-set_same}
+use Rattle.std.specs.Prelude.{Some, None, unwrap_or}
+use Rattle.std.specs.List.{position_or_len}
 use Rattle.lists.specs.Sums.{total}
-use Rattle.lists.proofs.Cases.{counted_next}
-use Rattle.lists.proofs.Checks.{check-lt, check_nlt}
+use Rattle.lists.proofs.Cases.{drop_next}
+use Rattle.lists.proofs.Fill.{fill_turn, fill_done}
 use Rattle.lists.proofs.Sums.{get_or-le-total, total_raised}
 use Rattle.admission.specs.Admission.{losses_of}
 use Rattle.admission.specs.declared.Pools.{Pools}
 use Rattle.admission.proofs.EachPool.{length-losses}
-use Rattle.pools.specs.Pools.{losses_after, first_left, joined_pool, sums_of}
+use Rattle.pools.specs.Pools.{losses_after, joined_pool, sums_of}
 
 pub length_after : (given : ℕ) (losses : List ℕ) → length (losses_after given losses) ≡ length losses
 unfolding losses_after
@@ -30,58 +30,46 @@ unfolding losses_after
 total_after given [] = omega arith
 total_after given (loss ∷ losses) = omega (arith, total_after (given - loss) losses)
 
--- those of the pools that are counted, one a turn
-module _ (xs : List ℕ) (count : ℕ) (h : count ≤ length xs) (p : ℕ) where
-  abbrev counted : List ℕ
-  counted = take count xs
+-- The losses are met in place, one a turn: what is left of those so far, with what will be left of the others behind it, is the whole result.
+pub record Met (given : ℕ) (losses : List ℕ) (rest : ℕ) (out : List ℕ) (k : ℕ) : Type 0 where
+  pub as_long : length out ≡ length losses
+  pub stands : drop k out ≡ drop k losses
+  pub filled : take k out ++ losses_after rest (drop k losses) ≡ losses_after given losses
 
-  -- the next loss is met as far as what is given goes
-  pub after_turn : (given met : ℕ) → p < count → met ≡ min given (get_or xs p 0)
-      → losses_after given (drop p counted) ≡ (get_or xs p 0 - met) ∷ losses_after (given - met) (drop (p + 1) counted)
+module _ (given : ℕ) (losses : List ℕ) where
+  pub met_next : (rest : ℕ) (out : List ℕ) (k : ℕ) → Met given losses rest out k → get_or out k 0 ≡ get_or losses k 0
+  met_next rest out k m =
+      let z : k + 0 ≡ k = omega arith in
+      let e : get_or out (k + 0) 0 ≡ get_or losses (k + 0) 0 = sym (get_or-drop k out 0 0) ∙ ap (λ (xs : List ℕ). get_or xs 0 0) m.stands ∙ get_or-drop k losses 0 0 in
+      rw z at e
+
+  pub met_turn : (rest : ℕ) (out : List ℕ) (k met : ℕ) → k < length losses → met ≡ min rest (get_or out k 0) → Met given losses rest out k
+      → Met given losses (rest - met) (set out k (get_or out k 0 - met)) (k + 1)
   unfolding losses_after
-  after_turn given met l e =
-      let a : get_or xs p 0 - met ≡ get_or xs p 0 - given = omega arith in
-      let b : given - met ≡ given - get_or xs p 0 = omega arith in
-      rw (a, b, counted_next xs count h p l)
+  met_turn rest out k met h e m =
+      let n : get_or out k 0 ≡ get_or losses k 0 = met_next rest out k m in
+      let a : get_or out k 0 - met ≡ get_or losses k 0 - rest = omega arith in
+      let b : rest - met ≡ rest - get_or losses k 0 = omega arith in
+      let step : losses_after rest (drop k losses) ≡ (get_or out k 0 - met) ∷ losses_after (rest - met) (drop (k + 1) losses) = rw (a, b, drop_next losses k h) in
+      record {
+        as_long = length-set out k (get_or out k 0 - met) ∙ m.as_long;
+        stands =
+            drop-set-lt (k + 1) out k (get_or out k 0 - met) (omega arith) ∙ sym (drop-drop 1 k out) ∙ ap (drop 1) m.stands ∙ drop-drop 1 k losses;
+        filled = fill_turn out _ _ _ k _ (omega (arith, m.as_long)) step m.filled;
+      }
 
-  pub after-end : (given : ℕ) → count ≤ p → losses_after given (drop p counted) ≡ []
+  pub met_done : (rest : ℕ) (out : List ℕ) (k : ℕ) → length losses ≤ k → Met given losses rest out k → out ≡ losses_after given losses
   unfolding losses_after
-  after-end given l = rw (drop_of_length-le counted {i = p} (omega (arith, length-take-le count xs h)))
+  met_done rest out k h m = fill_done out _ _ k (omega (arith, m.as_long)) (ap (losses_after rest) (drop_of_length-le losses h)) m.filled
 
-  -- the next pool is the first with loss left, or is passed
-  pub first_here : p < count → 0 < get_or xs p 0 → first_left (drop p counted) ≡ 0
-  unfolding first_left
-  first_here l g = rw (counted_next xs count h p l) (sym (check-lt _ _ 0 (get_or xs p 0) g refl))
-
-  pub first_past : p < count → get_or xs p 0 ≤ 0 → first_left (drop p counted) ≡ suc (first_left (drop (p + 1) counted))
-  unfolding first_left
-  first_past l g = rw (counted_next xs count h p l) (sym (check_nlt _ _ 0 (get_or xs p 0) g refl))
-
--- where a pool has loss left, the first is one of them
-first-within : (lefts : List ℕ) → 0 < total lefts → first_left lefts < length lefts
-unfolding first_left
-first-within [] h = absurd (omega arith)
-first-within (left ∷ lefts) h =
-    ⊎_elim
-    (λ z.
-    let e : suc (first_left lefts) ≡ check (ltb 0 left) 0 (suc (first_left lefts)) = check_nlt _ _ 0 left (omega arith) refl in
-    omega (arith, e, first-within lefts (omega arith)))
-    (λ p.
-    let e : 0 ≡ check (ltb 0 left) 0 (suc (first_left lefts)) = check-lt _ _ 0 left p refl in
-    omega (arith, e))
-    (eq-zero-or-pos left)
-
+-- the pool that is joined is one of them
 pub joined-within : (lefts : List ℕ) → 0 < length lefts → joined_pool lefts < length lefts
 unfolding joined_pool
-joined-within lefts h =
-    ⊎_elim
-    (λ z.
-    let e : 0 ≡ check (ltb 0 (total lefts)) (first_left lefts) 0 = check_nlt _ _ 0 (total lefts) (omega arith) refl in
-    omega (arith, e))
-    (λ p.
-    let e : first_left lefts ≡ check (ltb 0 (total lefts)) (first_left lefts) 0 = check-lt _ _ 0 (total lefts) p refl in
-    omega (arith, e, first-within lefts p))
-    (eq-zero-or-pos (total lefts))
+joined-within lefts h = go (ltb (position_or_len (ltb 0) lefts) (length lefts)) refl
+  where
+    go : (b : Bool) → ltb (position_or_len (ltb 0) lefts) (length lefts) ≡ b → unwrap_or (cond b (Some (position_or_len (ltb 0) lefts)) None) 0 < length lefts
+    go true e = ltb-true _ _ e
+    go false e = h
 
 module _ (given fallen : ℕ) (losses : List ℕ) where
   pub length-sums : length (sums_of given fallen losses) ≡ length losses
@@ -100,37 +88,30 @@ module _ (given fallen : ℕ) (losses : List ℕ) where
       )
 
 -- as many sums as pools
-pub counted-sums : (given fallen : ℕ) (pools : Pools) → pools.count ≤ pool_limit → length (sums_of given fallen (losses_of pools)) ≡ pools.count
-counted-sums given fallen pools h =
-    length-sums given fallen (losses_of pools) ∙ length-losses pools h
+pub counted-sums : (given fallen : ℕ) (pools : Pools) → length (sums_of given fallen (losses_of pools)) ≡ pools.count
+counted-sums given fallen pools = length-sums given fallen (losses_of pools) ∙ length-losses pools
 
--- The sums are made in place: of the array `out` the first are what is left of the losses, and what is left of the fallen call joins one of them.
-pub record Joining (given fallen met count p : ℕ) (losses out : List ℕ) : Type 0 where
-  pub some : 0 < count
-  pub few : count ≤ length out
+-- The sums are made in place: what is left of the losses, one of which is joined by what is left of the fallen call.
+pub record Joining (given fallen met p : ℕ) (losses out : List ℕ) : Type 0 where
+  pub some : 0 < length losses
   pub met_is : met ≡ min given fallen
-  pub lefts_are : take count out ≡ losses_after (given - met) losses
-  pub pool_is : p ≡ joined_pool (take count out)
+  pub lefts_are : out ≡ losses_after (given - met) losses
+  pub pool_is : p ≡ joined_pool out
 
-module _ {given fallen met count p : ℕ} {losses out : List ℕ} (j : Joining given fallen met count p losses out) where
-  pub joining-within : p < count
-  joining-within = omega (arith, joined-within (take count out) (omega (arith, length-take-le count out j.few)), length-take-le count out j.few)
+module _ {given fallen met p : ℕ} {losses out : List ℕ} (j : Joining given fallen met p losses out) where
+  pub joining-within : p < length out
+  joining-within =
+      omega (arith, j.pool_is, joined-within out (omega (arith, ap length j.lefts_are, length_after (given - met) losses, j.some)))
 
-  pub joining-sums : take count (set out p (get_or out p 0 + (fallen - met))) ≡ sums_of given fallen losses
+  pub joining-sums : set out p (get_or out p 0 + (fallen - met)) ≡ sums_of given fallen losses
   unfolding sums_of
   joining-sums =
-      let x : fallen - met ≡ fallen - given = omega arith in
-      let y : given - met ≡ given - fallen = omega arith in
-      rw (take-set-lt count out p (get_or out p 0 + (fallen - met)) joining-within, ← get_or-take count out p 0 joining-within, x, j.pool_is, j.lefts_are, y)
+      let x : fallen - met ≡ fallen - given = omega (arith, j.met_is) in
+      let y : given - met ≡ given - fallen = omega (arith, j.met_is) in
+      rw (x, j.pool_is, j.lefts_are, y)
 
   -- the sum that is joined is at most all of them
   pub joining_fits : get_or out p 0 + (fallen - met) ≤ total (sums_of given fallen losses)
   joining_fits =
       let s : ℕ = get_or out p 0 + (fallen - met) in
-      omega (
-        arith,
-        get_or-le-total (take count (set out p s)) p,
-        get_or-take count (set out p s) p 0 joining-within,
-        get_or-set_same out p s 0 (omega (arith, joining-within)),
-        ap total joining-sums,
-      )
+      omega (arith, get_or-le-total (set out p s) p, get_or-set_same out p s 0 joining-within, ap total joining-sums)

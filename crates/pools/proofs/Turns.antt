@@ -2,36 +2,33 @@
 use Prim.Native.Nat.{ℕ, ◌+◌, ◌-◌, ◌*◌, ◌≤◌, ◌<◌}
 use mathlib.Core.Path.{◌≡◌, refl, ap, sym, ◌∙◌}
 use mathlib.Core.Bool.{Bool, ◌||◌}
-use mathlib.Core.List.{List, [], ◌∷◌, ◌++◌, append-nil}
-use native.Mathlib.Numerals.{add-one}
+use mathlib.Core.List.{List, [], ◌∷◌}
 use native.Mathlib.Omega.{arith}
-use lib.Dec.{eqb}
-use lib.ListN.{length, get_or, take, drop, length-map, drop_of_length-le, get_or-map}
-use lib.Seq.{drop-cons}
-use Rattle.lists.specs.Limits.{member_limit, amount_limit, allocation_limit}
+use lib.ListN.{length, get_or, length-map, get_or-map}
+use Rattle.lists.specs.Limits.{member_limit, amount_limit}
 use Rattle.lists.specs.Sums.{total, plus, minus, keep}
 use Rattle.lists.proofs.Places.{map_same}
 use Rattle.lists.proofs.Sums.{total-plus, none-plus, get_or-minus, minus-none, keep-le, length-keep, total_bound}
 use Rattle.split.specs.Split.{share_of, exceeds}
-use Rattle.split.proofs.Laws.{share-last, share-le_left, share-none, length-split, split-within, exceeds-none}
+use Rattle.split.proofs.Laws.{share-last, share-le_left, share-none, split-within, exceeds-none}
 use Rattle.ranks.specs.Ranks.{charges_of}
 use Rattle.ranks.proofs.Laws.{length-charges, charge-within, charges-within}
-use Rattle.figures.specs.Figures.{live, live_in}
+use Rattle.figures.specs.declared.Status.{Status}
+use Rattle.figures.specs.Figures.{live_in}
+use Rattle.figures.proofs.Figures.{length-live}
 use Rattle.rooms.specs.Rooms.{gives, rooms}
 use Rattle.rooms.specs.Parts.{Shares}
-use Rattle.rooms.proofs.Places.{length-rooms}
 use Rattle.rooms.proofs.Shares.{whole_shared}
 use Rattle.pools.specs.Parts.{Chargeable, Divisible, PoolCharged, Tiable, Tied, shares}
 use Rattle.pools.specs.declared.Division.{Division}
 
--- the shares of a turn, one contribution after the other ----------------------------------
+-- the shares of a turn -------------------------------------------------------------------
 
-pub shares_step : (sum rest : ℕ) (left : List ℕ) (i x : ℕ) → i < length left → x ≡ share_of (get_or left i 0) sum rest
-    → shares sum rest (drop i left) ≡ x ∷ shares sum rest (drop (i + 1) left)
-shares_step sum rest left i x h e = rw (e, add-one, drop-cons left i 0 h)
-
-pub shares-end : (sum rest : ℕ) (left : List ℕ) (i : ℕ) → length left ≤ i → shares sum rest (drop i left) ≡ []
-shares-end sum rest left i h = rw (drop_of_length-le left {i = i} h)
+-- a pool's portion of a contribution
+pub get_or-shares : (sum rest : ℕ) (left : List ℕ) (k : ℕ) → sum ≤ rest → get_or (shares sum rest left) k 0 ≡ share_of (get_or left k 0) sum rest
+get_or-shares sum rest left k h =
+    let z : share_of 0 sum rest ≡ 0 = omega (arith, share-le_left 0 sum rest h) in
+    rw z at (get_or-map (λ w. share_of w sum rest) left k 0)
 
 -- the last pool with a sum has all that is left
 pub shares-last : (sum rest : ℕ) (left : List ℕ) → 0 < sum → sum ≡ rest → left ≡ shares sum rest left
@@ -41,9 +38,7 @@ shares-last sum rest left p e =
 -- each is at most what is left
 pub shares-within : (sum rest : ℕ) (left : List ℕ) → sum ≤ rest → (k : ℕ) → get_or (shares sum rest left) k 0 ≤ get_or left k 0
 shares-within sum rest left h k =
-    let z : share_of 0 sum rest ≡ 0 = omega (arith, share-le_left 0 sum rest h) in
-    let e : get_or (shares sum rest left) k 0 ≡ share_of (get_or left k 0) sum rest = rw z at (get_or-map (λ w. share_of w sum rest) left k 0) in
-    omega (arith, e, share-le_left (get_or left k 0) sum rest h)
+    omega (arith, get_or-shares sum rest left k h, share-le_left (get_or left k 0) sum rest h)
 
 -- a pool without a sum takes nothing
 total_no-shares : (sum rest : ℕ) (left : List ℕ) → sum ≡ 0 → total (shares sum rest left) ≡ 0
@@ -52,7 +47,7 @@ total_no-shares sum rest (w ∷ left) z = omega (arith, share-none w sum rest z,
 
 -- the next pool ------------------------------------------------------------------------
 
-module _ (sum : ℕ) (status ranks : List ℕ) (d : Division) (p : Divisible sum status ranks d) where
+module _ (sum : ℕ) (status : List Status) (ranks : List ℕ) (d : Division) (long : length status ≡ member_limit) (p : Divisible sum status ranks d) where
   abbrev portions : List ℕ
   portions = shares sum d.rest d.left
 
@@ -60,30 +55,26 @@ module _ (sum : ℕ) (status ranks : List ℕ) (d : Division) (p : Divisible sum
   charged = charges_of sum (keep (live_in status) portions) ranks
 
   length-portions : length portions ≡ member_limit
-  length-portions = length-map d.left (λ w. share_of w sum d.rest) ∙ p.chargeable.contribution_length
+  length-portions = length-map d.left (λ w. share_of w sum d.rest) ∙ p.left_length
 
   pub portions-within : (k : ℕ) → get_or portions k 0 ≤ get_or d.left k 0
   portions-within k = shares-within sum d.rest d.left p.sum_fits k
 
-  pub chargeable_so : (found : List ℕ) → found ≡ portions → (sum ≤ allocation_limit) × Chargeable status found ranks
+  pub chargeable_so : (found : List ℕ) → found ≡ portions → Chargeable status found ranks
   chargeable_so found e =
-      rw e (
-        omega (arith, p.sum_fits, p.rest_fits),
-        record {
-          status_length = p.chargeable.status_length;
-          contribution_length = length-portions;
-          ranks_length = p.chargeable.ranks_length;
-          contribution_fits = λ k. omega (arith, portions-within k, p.chargeable.contribution_fits k);
-          well_ranked = p.chargeable.well_ranked;
-        },
-      )
+      rw e
+      record {
+        ranks_length = p.chargeable.ranks_length;
+        contribution_fits = λ k. omega (arith, portions-within k, p.chargeable.contribution_fits k);
+        well_ranked = p.chargeable.well_ranked;
+      }
 
-  pub can-take : (wide found : List ℕ) → wide ≡ found → found ≡ portions → ((length d.left ≡ member_limit) × (length wide ≡ member_limit)) × ((k : ℕ) → get_or wide k 0 ≤ get_or d.left k 0)
-  can-take wide found a b = rw (a, b) ((p.chargeable.contribution_length, length-portions), portions-within)
+  pub can-take : (wide found : List ℕ) → wide ≡ found → found ≡ portions → (k : ℕ) → get_or wide k 0 ≤ get_or d.left k 0
+  can-take wide found a b = rw (a, b) portions-within
 
   marks-length : length (keep (live_in status) portions) ≡ member_limit
   marks-length =
-      length-keep (live_in status) portions (length-map status (eqb live) ∙ p.chargeable.status_length ∙ sym length-portions) ∙ length-portions
+      length-keep (live_in status) portions (length-live status ∙ long ∙ sym length-portions) ∙ length-portions
 
   length_charged : length charged ≡ member_limit
   length_charged = length-charges sum (keep (live_in status) portions) ranks (p.chargeable.ranks_length ∙ sym marks-length) ∙ marks-length
@@ -91,13 +82,10 @@ module _ (sum : ℕ) (status ranks : List ℕ) (d : Division) (p : Divisible sum
   charged-within : (k : ℕ) → get_or charged k 0 ≤ get_or portions k 0
   charged-within k = omega (arith, charge-within sum (keep (live_in status) portions) ranks k, keep-le (live_in status) portions k)
 
-  pub can-add : (found cs : List ℕ) (t : ℕ) → found ≡ portions → cs ≡ charges_of sum (keep (live_in status) found) ranks → t ≡ total cs
-      → ((length d.charges ≡ member_limit) × (length cs ≡ member_limit) × (t ≡ total cs)) × ((k : ℕ) → get_or d.charges k 0 + get_or cs k 0 ≤ amount_limit)
-  can-add found cs t a b w =
-      let e : cs ≡ charged = b ∙ ap (λ (xs : List ℕ). charges_of sum (keep (live_in status) xs) ranks) a in (
-        (p.charges_length, ap length e ∙ length_charged, w),
-        λ k. omega (arith, ap (λ (xs : List ℕ). get_or xs k 0) e, charged-within k, portions-within k, p.charges_fit k),
-      )
+  pub can-add : (found cs : List ℕ) → found ≡ portions → cs ≡ charges_of sum (keep (live_in status) found) ranks → (k : ℕ) → get_or d.charges k 0 + get_or cs k 0 ≤ amount_limit
+  can-add found cs a b k =
+      let e : cs ≡ charged = b ∙ ap (λ (xs : List ℕ). charges_of sum (keep (live_in status) xs) ranks) a in
+      omega (arith, ap (λ (xs : List ℕ). get_or xs k 0) e, charged-within k, portions-within k, p.charges_fit k)
 
   -- what the pools so far charge, and what this one does, have 64 bits together
   pub total_most : d.total ≤ amount_limit * member_limit
@@ -135,14 +123,9 @@ module _ (sum : ℕ) (status ranks : List ℕ) (d : Division) (p : Divisible sum
         over_is = p.over_is;
       }
 
--- charges that are written over all that was lent
-pub whole-written : (old these left : List ℕ) → length old ≡ member_limit → left ≡ take 0 old ++ these ++ drop (0 + member_limit) old → left ≡ these
-whole-written old these left l e =
-    e ∙ ap (λ (xs : List ℕ). these ++ xs) (drop_of_length-le old {i = 0 + member_limit} (omega (arith, l))) ∙ append-nil these
-
 -- the last tie ----------------------------------------------------------------------------
 
-module _ (whole : ℕ) (status contribution : List ℕ) (d : Division) (p : Tiable whole status contribution d) (cs : List ℕ) (t rest : ℕ) (over : Bool)
+module _ (whole : ℕ) (status : List Status) (contribution : List ℕ) (d : Division) (p : Tiable whole contribution d) (cs : List ℕ) (t rest : ℕ) (over : Bool)
     (s : Shares (rooms (live_in status) contribution d.charges) (whole - d.total) cs t rest over) where
   abbrev standing : List ℕ
   standing = rooms (live_in status) contribution d.charges
@@ -153,24 +136,21 @@ module _ (whole : ℕ) (status contribution : List ℕ) (d : Division) (p : Tiab
   tie-within : (k : ℕ) → get_or cs k 0 ≤ get_or standing k 0
   tie-within k = omega (arith, ap (λ (xs : List ℕ). get_or xs k 0) s.shares_are, split-within gave standing (omega arith) k)
 
-  pub tie_adds : ((length d.charges ≡ member_limit) × (length cs ≡ member_limit) × (t ≡ total cs)) × ((k : ℕ) → get_or d.charges k 0 + get_or cs k 0 ≤ amount_limit)
-  tie_adds = (
-    (p.roomy.taken_length, ap length s.shares_are ∙ length-split gave standing ∙ length-rooms status contribution d.charges p.roomy, whole_shared standing (whole - d.total) cs t rest over s),
-    λ k.
-        omega (
-          arith,
-          tie-within k,
-          keep-le (live_in status) (minus contribution d.charges) k,
-          get_or-minus contribution d.charges k,
-          p.roomy.taken_fits k,
-          p.roomy.most_fits k,
-        ),
-  )
+  pub tie_adds : (k : ℕ) → get_or d.charges k 0 + get_or cs k 0 ≤ amount_limit
+  tie_adds k =
+      omega (
+        arith,
+        tie-within k,
+        keep-le (live_in status) (minus contribution d.charges) k,
+        get_or-minus contribution d.charges k,
+        p.roomy.taken_fits k,
+        p.roomy.most_fits k,
+      )
 
   pub tied_so : (charges wide : List ℕ) → charges ≡ plus d.charges cs → wide ≡ charges → Tied standing whole d wide (d.total + t) (d.over || over)
   tied_so charges wide a b =
       record {
         charges_are = b ∙ a ∙ ap (plus d.charges) s.shares_are;
-        total_is = omega (arith, ap total b, ap total a, total-plus d.charges cs, p.total_is, tie_adds.0.2);
+        total_is = omega (arith, ap total b, ap total a, total-plus d.charges cs, p.total_is, whole_shared standing (whole - d.total) cs t rest over s);
         over_is = rw p.over_is (s.over_is ∙ exceeds-none cs standing tie-within);
       }

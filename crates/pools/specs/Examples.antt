@@ -1,9 +1,8 @@
 -- Values of the definitions of several pools, computed.
 use Rattle.std.specs.Prelude.{ℕ, ◌≡◌, refl, List, [], ◌∷◌, ◌++◌, replicate}
-use Rattle.lists.specs.Checks.{check}
 use Rattle.split.specs.Split.{share_of, split_of}
 use Rattle.ranks.specs.Ranks.{charges_from, charges_of}
-use Rattle.pools.specs.Pools.{losses_after, first_left, joined_pool, sums_of, portions_of, charges_in, charges_up_to, charges_together, unmet, still_standing, tied, charges_by_pools}
+use Rattle.pools.specs.Pools.{losses_after, joined_pool, sums_of, portions_of, charges_in, charges_up_to, charges_together, unmet, still_standing, tied, charges_by_pools}
 
 -- layers 1 to 3 give 6: the fallen call of 5 is met, and 1 of the first loss; they give 2: the 3 that are left of the fallen call join pool 1, pool 2
 -- where pool 1 has no loss, and pool 1 where none has
@@ -12,7 +11,7 @@ pub sums : (sums_of 6 5 (4 ∷ 3 ∷ []) ≡ 3 ∷ 3 ∷ [])
     × (sums_of 2 5 (4 ∷ 3 ∷ []) ≡ 7 ∷ 3 ∷ [])
     × (sums_of 2 5 (0 ∷ 4 ∷ 3 ∷ []) ≡ 0 ∷ 7 ∷ 3 ∷ [])
     × (sums_of 2 5 (0 ∷ 0 ∷ []) ≡ 3 ∷ 0 ∷ [])
-unfolding sums_of losses_after joined_pool first_left check
+unfolding sums_of losses_after joined_pool
 sums = (refl, refl, refl, refl, refl)
 
 -- contributions of 5 and 7 over sums of 1 and 2, and over no sum at all

@@ -4,6 +4,7 @@ use Rattle.lists.specs.Limits.{member_limit, pool_limit, amount_limit, allocatio
 use Rattle.lists.specs.Sums.{total, plus, minus, keep}
 use Rattle.split.specs.Split.{share_of, split_of, exceeds}
 use Rattle.ranks.specs.Ranks.{charges_of}
+use Rattle.figures.specs.declared.Status.{Status}
 use Rattle.figures.specs.Figures.{live_in}
 use Rattle.admission.specs.Admission.{misranked, pools_misranked}
 use Rattle.rooms.specs.Rooms.{gives}
@@ -18,20 +19,16 @@ pub record Charges (these contribution charges : List ℕ) (charged : ℕ) (over
   pub over_is : over ≡ exceeds charges contribution
 
 -- what one pool is charged with
-pub record Chargeable (status contribution ranks : List ℕ) : Type 0 where
-  pub status_length : length status ≡ member_limit
-  pub contribution_length : length contribution ≡ member_limit
+pub record Chargeable (status : List Status) (contribution ranks : List ℕ) : Type 0 where
   pub ranks_length : length ranks ≡ member_limit
   pub contribution_fits : (k : ℕ) → get_or contribution k 0 ≤ amount_limit
   pub well_ranked : misranked (live_in status) ranks ≡ false
 
 -- what several are charged with: their sums, and the ranks of all
-pub record Poolable (sums status contribution ranks : List ℕ) : Type 0 where
+pub record Poolable (sums : List ℕ) (status : List Status) (contribution ranks : List ℕ) : Type 0 where
   pub some : 0 < length sums
   pub few : length sums ≤ pool_limit
   pub sums_fit : total sums ≤ allocation_limit
-  pub status_length : length status ≡ member_limit
-  pub contribution_length : length contribution ≡ member_limit
   pub ranks_length : length ranks ≡ member_limit * length sums
   pub contribution_fits : (k : ℕ) → get_or contribution k 0 ≤ amount_limit
   pub well_ranked : pools_misranked (live_in status) ranks (length sums) ≡ false
@@ -43,7 +40,7 @@ undivided (suc p) [] weight = weight
 undivided (suc p) (s ∷ sums) weight = undivided p sums (weight - share_of weight s (s + total sums))
 
 -- the first p pools are charged
-pub record Divided (p : ℕ) (sums status contribution ranks : List ℕ) (d : Division) : Type 0 where
+pub record Divided (p : ℕ) (sums : List ℕ) (status : List Status) (contribution ranks : List ℕ) (d : Division) : Type 0 where
   pub left_is : d.left ≡ map (undivided p sums) contribution
   pub rest_is : d.rest ≡ total (drop p sums)
   pub charges_are : d.charges ≡ charges_up_to sums (keep (live_in status) contribution) ranks p
@@ -51,10 +48,11 @@ pub record Divided (p : ℕ) (sums status contribution ranks : List ℕ) (d : Di
   pub over_is : d.over ≡ false
 
 -- what the next pool is charged with
-pub record Divisible (sum : ℕ) (status ranks : List ℕ) (d : Division) : Type 0 where
+pub record Divisible (sum : ℕ) (status : List Status) (ranks : List ℕ) (d : Division) : Type 0 where
   pub sum_fits : sum ≤ d.rest
   pub rest_fits : d.rest ≤ allocation_limit
   pub chargeable : Chargeable status d.left ranks
+  pub left_length : length d.left ≡ member_limit
   pub charges_length : length d.charges ≡ member_limit
   pub charges_fit : (k : ℕ) → get_or d.charges k 0 + get_or d.left k 0 ≤ amount_limit
   pub total_is : d.total ≡ total d.charges
@@ -73,9 +71,10 @@ pub record PoolCharged (sum : ℕ) (others : List Bool) (ranks : List ℕ) (d ne
   pub over_is : next.over ≡ false
 
 -- the pools are charged, and what is left falls on the rooms of the members that are marked
-pub record Tiable (whole : ℕ) (status contribution : List ℕ) (d : Division) : Type 0 where
+pub record Tiable (whole : ℕ) (contribution : List ℕ) (d : Division) : Type 0 where
   pub whole_fits : whole ≤ allocation_limit
-  pub roomy : Roomy status contribution d.charges
+  pub charges_length : length d.charges ≡ member_limit
+  pub roomy : Roomy contribution d.charges
   pub total_is : d.total ≡ total d.charges
   pub total_within : d.total ≤ whole
   pub over_is : d.over ≡ false

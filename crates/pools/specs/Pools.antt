@@ -1,7 +1,7 @@
 -- Document 02, request 3, "Several auction pools in one default": layer 4 by pools. Any number of pools, counted from 0 here; `weights` are the
 -- other live members' contributions, 0 for everyone else.
-use Rattle.std.specs.Prelude.{ℕ, zero, suc, ◌+◌, ◌-◌, List, [], ◌∷◌, map, ltb, length, get_or, set, replicate}
-use Rattle.lists.specs.Checks.{check}
+use Rattle.std.specs.Prelude.{ℕ, zero, suc, ◌+◌, ◌-◌, List, [], ◌∷◌, map, ltb, length, get_or, set, replicate, unwrap_or}
+use Rattle.std.specs.List.{position}
 use Rattle.lists.specs.Sums.{total, plus, minus}
 use Rattle.split.specs.Split.{split_of}
 use Rattle.ranks.specs.Ranks.{charges_of}
@@ -16,14 +16,9 @@ unfoldable pub losses_after : ℕ → List ℕ → List ℕ
 losses_after given [] = []
 losses_after given (loss ∷ losses) = (loss - given) ∷ losses_after (given - loss) losses
 
--- "the first pool with loss left"
-unfoldable pub first_left : List ℕ → ℕ
-first_left [] = 0
-first_left (left ∷ lefts) = check (ltb 0 left) 0 (suc (first_left lefts))
-
--- "or pool 1 if none has"
+-- "the first pool with loss left, or pool 1 if none has"
 unfoldable pub joined_pool : List ℕ → ℕ
-joined_pool lefts = check (ltb 0 (total lefts)) (first_left lefts) 0
+joined_pool lefts = unwrap_or (position (ltb 0) lefts) 0
 
 -- "Any fallen call left joins" that pool
 abbrev pub joined : ℕ → List ℕ → List ℕ

@@ -9,4 +9,4 @@ returns-then-left-eq0 c =
 
 pub overflow_cast-result : goal.overflow_cast-result
 overflow_cast-result c =
-    omega (arith, c.requires, c.share.ensures, share-le_left c.args.left c.args.sum c.args.rest c.requires.1)
+    omega (arith, c.requires, c.share.ensures, share-le_left c.from.result c.args.sum c.args.rest c.requires.1)

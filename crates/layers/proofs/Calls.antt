@@ -7,18 +7,16 @@ use lib.ListN.{length, take, drop}
 use lib.Seq.{take_at, drop_at, drop-drop}
 use Rattle.lists.specs.Limits.{member_limit, pool_limit, allocation_limit}
 use Rattle.lists.specs.Sums.{total}
-use Rattle.figures.specs.Figures.{live_in, in_default, figure, replace}
+use Rattle.figures.specs.declared.Status.{Status}
 use Rattle.admission.specs.Admission.{losses_of}
 use Rattle.admission.specs.declared.Pools.{Pools}
-use Rattle.rooms.specs.Rooms.{rooms}
-use Rattle.rooms.specs.Parts.{Roomy, Leaves}
+use Rattle.rooms.specs.Parts.{Leaves}
 use Rattle.rooms.proofs.Shares.{leaves}
 use Rattle.pools.specs.Pools.{sums_of}
 use Rattle.pools.specs.Parts.{Poolable}
 use Rattle.pools.proofs.Sums.{counted-sums, total-sums}
 use Rattle.admission.proofs.EachPool.{length-losses}
-use Rattle.layers.specs.Parts.{Pooled, Allocatable, GoesDown}
-use Rattle.layers.specs.declared.Placed.{Placed}
+use Rattle.layers.specs.Parts.{Pooled}
 
 parts : (left has given rest : ℕ) → Leaves left has given rest → given + rest ≡ left
 parts left has given rest e = omega arith
@@ -33,7 +31,7 @@ module _ (pools : Pools) (fallen margin contribution tranche1 g1 g2 g3 l1 l2 l3 
   pub left_to-pools : l3 ≡ total sums
   left_to-pools =
       less (g1 + g2 + g3) (total (losses_of pools) + fallen) l3 (added _ _ _ _ _ _ _ (parts _ _ _ _ first) (parts _ _ _ _ second) (parts _ _ _ _ third))
-      ∙ sym (total-sums (g1 + g2 + g3) fallen (losses_of pools) (omega (arith, length-losses pools few)))
+      ∙ sym (total-sums (g1 + g2 + g3) fallen (losses_of pools) (omega (arith, length-losses pools)))
     where
       less : (g s l : ℕ) → g + l ≡ s → l ≡ s - g
       less g s l e = omega arith
@@ -41,15 +39,13 @@ module _ (pools : Pools) (fallen margin contribution tranche1 g1 g2 g3 l1 l2 l3 
       added : (s a b c l k m : ℕ) → a + l ≡ s → b + k ≡ l → c + m ≡ k → a + b + c + m ≡ s
       added s a b c l k m p q r = omega arith
 
-  pub poolable : (status contributions ranks : List ℕ) → total (losses_of pools) + fallen ≤ allocation_limit → Pooled pools status contributions ranks → Poolable sums status contributions ranks
+  pub poolable : (status : List Status) (contributions ranks : List ℕ) → total (losses_of pools) + fallen ≤ allocation_limit → Pooled pools status contributions ranks → Poolable sums status contributions ranks
   poolable status contributions ranks fits p =
-      let n : length sums ≡ pools.count = counted-sums (g1 + g2 + g3) fallen pools few in
+      let n : length sums ≡ pools.count = counted-sums (g1 + g2 + g3) fallen pools in
       record {
         some = omega (arith, n);
         few = omega (arith, n);
         sums_fit = bound _ _ _ _ _ (sym left_to-pools) (leaves _ _ third) (leaves _ _ second) (leaves _ _ first) fits;
-        status_length = p.status_length;
-        contribution_length = p.contribution_length;
         ranks_length = rw n p.ranks_length;
         contribution_fits = p.contribution_fits;
         well_ranked = rw n p.well_ranked;
@@ -69,14 +65,3 @@ slip-written charged called slip s1 s2 l e1 e2 =
     let rest : drop (member_limit + member_limit) s1 ≡ drop (member_limit + member_limit) slip =
     sym (drop-drop member_limit member_limit s1) ∙ ap (drop member_limit) back ∙ drop-drop member_limit member_limit slip in
     e2 ∙ rw (front, rest)
-
--- a default is placed by the figures that were read of its lists: `others` are the statuses once the defaulter is in default
-module _ (status margins contributions outstanding cap called : List ℕ) (member : ℕ) (pools : Pools) (ranks : List ℕ) (p : Allocatable status margins contributions outstanding cap called member pools ranks)
-    (others : List ℕ) (fallen : ℕ) (marked : others ≡ replace status member in_default) (read : fallen ≡ figure outstanding member) where
-  pub placed_with : (total (losses_of pools) + fallen ≤ allocation_limit) × Pooled pools others contributions ranks × Roomy others cap called
-  placed_with = rw (marked, read) (p.sum_fits, p.pooled, p.roomy)
-
-  pub placed_from : (margin contribution tranche1 tranche2 : ℕ) (x : Placed) → margin ≡ figure margins member → contribution ≡ figure contributions member
-      → GoesDown (losses_of pools) fallen margin contribution tranche1 tranche2 (live_in others) contributions (rooms (live_in others) cap called) ranks x
-      → GoesDown (losses_of pools) (figure outstanding member) (figure margins member) (figure contributions member) tranche1 tranche2 (live_in (replace status member in_default)) contributions (rooms (live_in (replace status member in_default)) cap called) ranks x
-  placed_from margin contribution tranche1 tranche2 x m c d = rw (marked, read, m, c) at d

@@ -3,7 +3,8 @@ use Rattle.std.specs.Prelude.{ℕ, ◌+◌, ◌-◌, ◌*◌, ◌≤◌, ◌<◌
 use Rattle.lists.specs.Limits.{member_limit, pool_limit, amount_limit, allocation_limit}
 use Rattle.lists.specs.Sums.{total, keep}
 use Rattle.split.specs.Split.{exceeds}
-use Rattle.figures.specs.Figures.{live_in, in_default, figure, replace}
+use Rattle.figures.specs.declared.Status.{Status}
+use Rattle.figures.specs.Figures.{live_in, figure, replace}
 use Rattle.admission.specs.Admission.{losses_of, excessive_losses, pools_misranked}
 use Rattle.admission.specs.declared.Pools.{Pools}
 use Rattle.rooms.specs.Parts.{Roomy, Leaves, Shares}
@@ -11,25 +12,21 @@ use Rattle.pools.specs.Pools.{sums_of, charges_by_pools}
 use Rattle.layers.specs.declared.Placed.{Placed}
 
 -- what layer 4 is asked with
-pub record Pooled (pools : Pools) (status contribution ranks : List ℕ) : Type 0 where
+pub record Pooled (pools : Pools) (status : List Status) (contribution ranks : List ℕ) : Type 0 where
   pub some : 0 < pools.count
   pub few : pools.count ≤ pool_limit
   pub each_fits : excessive_losses (losses_of pools) ≡ false
-  pub status_length : length status ≡ member_limit
-  pub contribution_length : length contribution ≡ member_limit
   pub ranks_length : length ranks ≡ member_limit * pools.count
   pub contribution_fits : (k : ℕ) → get_or contribution k 0 ≤ amount_limit
   pub well_ranked : pools_misranked (live_in status) ranks pools.count ≡ false
 
 -- what a default is placed with that 11 to 15, 21 and 22 do not refuse
-pub record Allocatable (status margins contributions outstanding cap called : List ℕ) (member : ℕ) (pools : Pools) (ranks : List ℕ) : Type 0 where
+pub record Allocatable (status : List Status) (contributions outstanding cap called : List ℕ) (member : ℕ) (pools : Pools) (ranks : List ℕ) : Type 0 where
   pub member_least : 0 < member
   pub member_most : member ≤ member_limit
-  pub margins_length : length margins ≡ member_limit
-  pub outstanding_length : length outstanding ≡ member_limit
   pub sum_fits : total (losses_of pools) + figure outstanding member ≤ allocation_limit
-  pub pooled : Pooled pools (replace status member in_default) contributions ranks
-  pub roomy : Roomy (replace status member in_default) cap called
+  pub pooled : Pooled pools (replace status member Status.InDefault) contributions ranks
+  pub roomy : Roomy cap called
 
 -- losses and a fallen call go down the six layers; `left1` to `left5` are what is left after each
 pub record GoesDown (losses : List ℕ) (fallen margin contribution tranche1 tranche2 : ℕ) (others : List Bool) (contributions rooms ranks : List ℕ) (placed : Placed) : Type 0 where

@@ -1,5 +1,4 @@
 // What a default takes, layer by layer, from lists of figures: document 01, "Declaring a default". It knows nothing of registers.
-// `status` is that of the members once the defaulter is in default, so that the live ones are the others.
 #![tactic(auto)]
 
 ghost use Rattle.std.specs.Prelude.{◌≡◌, ◌++◌, ◌+◌, ◌≤◌, length, drop};
@@ -11,13 +10,35 @@ ghost use Rattle.rooms.specs.Rooms.{rooms};
 ghost use Rattle.rooms.specs.Parts.{Roomy};
 ghost use Rattle.layers.specs.Parts.{Pooled, GoesDown, Allocatable};
 
-use admission::{Pools, all_losses};
-use figures::{defaulted, figure_of, write};
+use admission::Pools;
+use figures::{Status, defaulted, figure_of, write};
 use lists::MEMBER_LIMIT;
-use pools::charge_by_pools;
+use pools::{charge_by_pools, sums_of};
 use rooms::{layer, share_rooms};
 
-// The fallen call, what the six layers give, what is left after them, and whether a share passes what it is drawn from.
+/// The figures of a register that a default is placed by, each list by member number, and the tranches of our own contribution.
+#[derive(Clone, Copy)]
+pub struct Figures<'a> {
+    pub status: &'a [Status; 64],
+    pub margin: &'a [u32; 64],
+    pub contribution: &'a [u32; 64],
+    pub outstanding: &'a [u32; 64],
+    pub cap: &'a [u32; 64],
+    // what was called since the last close
+    pub called: &'a [u32; 64],
+    pub tranche1: u64,
+    pub tranche2: u64,
+}
+
+// What the defaulter leaves: its fallen call is to be placed, its margin and its contribution go first.
+#[derive(Clone, Copy)]
+struct Estate {
+    fallen: u64,
+    margin: u64,
+    contribution: u64,
+}
+
+/// The fallen call, what the six layers give, what is left after them, and whether a share passes what it is drawn from.
 #[derive(Clone, Copy)]
 pub struct Placed {
     pub fallen: u64,
@@ -30,45 +51,42 @@ pub struct Placed {
     pub short: u64,
     pub charges: [u64; 64],
     pub called: [u64; 64],
+    // A second answer: what is placed is right either way.
     pub over: bool,
 }
 
-// The six layers, one after the other: the losses and the fallen call go down them.
-fn place<'a>(
-    pools: Pools,
-    fallen: u64,
-    margin: u64,
-    contribution: u64,
-    tranche1: u64,
-    tranche2: u64,
-    status: &'a [u8; 64],
-    contributions: &'a [u32; 64],
-    cap: &'a [u32; 64],
-    called: &'a [u32; 64],
-    ranks: &[u8],
-) -> Placed
-    requires { (total (losses_of pools) + fallen ≤ allocation_limit) × Pooled pools status.now contributions.now ranks.now × Roomy status.now cap.now called.now }
-    ensures { GoesDown (losses_of pools) fallen margin contribution tranche1 tranche2 (live_in status.now) contributions.now (rooms (live_in status.now) cap.now called.now) ranks.now result }
+// The six layers, one after the other: the losses and the fallen call go down them. `figures` has the members as they stand once the defaulter is in
+// default, so that the live ones are the others.
+fn place(figures: Figures, estate: Estate, pools: Pools, ranks: &[u8]) -> Placed
+    requires moderate { total (losses_of pools) + estate.fallen ≤ allocation_limit }
+    requires pooled { Pooled pools figures.status.now figures.contribution.now ranks.now }
+    requires roomy { Roomy figures.cap.now figures.called.now }
+    ensures { let read = figures.entry in
+        GoesDown (losses_of pools) estate.fallen estate.margin estate.contribution read.tranche1 read.tranche2 (live_in read.status.now) read.contribution.now (rooms (live_in read.status.now) read.cap.now read.called.now) ranks.now result }
 {
-    let first = layer(all_losses(pools) + fallen, margin);
-    let second = layer(first.left, contribution);
-    let third = layer(second.left, tranche1);
-    let mut charges = [0u64; 64];
-    let fourth = charge_by_pools(
+    let first = layer(pools.together() + estate.fallen, estate.margin);
+    let second = layer(first.left, estate.contribution);
+    let third = layer(second.left, figures.tranche1);
+    let mut losses = pools.losses;
+    let sums = &mut losses[..pools.count];
+    sums_of(
         first.gives + second.gives + third.gives,
-        fallen,
-        pools,
-        third.left,
-        status,
-        contributions,
+        estate.fallen,
+        sums,
+    );
+    let mut charges = [0; 64];
+    let fourth = charge_by_pools(
+        sums,
+        figures.status,
+        figures.contribution,
         ranks,
         &mut charges,
     );
-    let fifth = layer(third.left - fourth.total, tranche2);
-    let sixth = share_rooms(status, cap, called, fifth.left);
-    let calls = sixth.shares;
+    let fifth = layer(third.left - fourth.total, figures.tranche2);
+    let sixth = share_rooms(figures.status, figures.cap, figures.called, fifth.left);
+    let called = sixth.shares;
     Placed {
-        fallen,
+        fallen: estate.fallen,
         margin: first.gives,
         contribution: second.gives,
         tranche1: third.gives,
@@ -77,47 +95,37 @@ fn place<'a>(
         calls: sixth.total,
         short: sixth.left,
         charges,
-        called: calls,
+        called,
         over: fourth.over | sixth.over,
     }
 }
 
 // A default that 11 to 15, 21 and 22 do not refuse, by the figures of the register that it is declared in. Nothing is changed yet.
-pub fn allocate<'a>(
-    status: [u8; 64],
-    margins: &'a [u32; 64],
-    contributions: &'a [u32; 64],
-    outstanding: &'a [u32; 64],
-    cap: &'a [u32; 64],
-    called: &'a [u32; 64],
-    tranche1: u64,
-    tranche2: u64,
-    member: u64,
-    pools: Pools,
-    ranks: &[u8],
-) -> Placed
-    requires { Allocatable status margins.now contributions.now outstanding.now cap.now called.now member pools ranks.now }
-    ensures { GoesDown (losses_of pools) (figure outstanding.now member) (figure margins.now member) (figure contributions.now member) tranche1 tranche2 (others status member) contributions.now (rooms (others status member) cap.now called.now) ranks.now result }
+pub fn allocate(figures: Figures, member: u64, pools: Pools, ranks: &[u8]) -> Placed
+    requires { Allocatable figures.status.now figures.contribution.now figures.outstanding.now figures.cap.now figures.called.now member pools ranks.now }
+    ensures { let read = figures.entry in let marks = others read.status.now member in
+        GoesDown (losses_of pools) (figure read.outstanding.now member) (figure read.margin.now member) (figure read.contribution.now member) read.tranche1 read.tranche2 marks read.contribution.now (rooms marks read.cap.now read.called.now) ranks.now result }
 {
-    let others = defaulted(status, member);
+    let estate = Estate {
+        fallen: figure_of(figures.outstanding, member),
+        margin: figure_of(figures.margin, member),
+        contribution: figure_of(figures.contribution, member),
+    };
+    let others = defaulted(*figures.status, member);
     place(
+        Figures {
+            status: &others,
+            ..figures
+        },
+        estate,
         pools,
-        figure_of(outstanding, member),
-        figure_of(margins, member),
-        figure_of(contributions, member),
-        tranche1,
-        tranche2,
-        &others,
-        contributions,
-        cap,
-        called,
         ranks,
     )
 }
 
 // "The slip's first 64 numbers receive each member's layer 4 charge, the next 64 its call": the slip is a lent buffer.
 pub fn tell(placed: Placed, slip: &mut [u64])
-    requires { (length placed.charges ≡ member_limit) × (length placed.called ≡ member_limit) × (member_limit + member_limit ≤ length slip.old) }
+    requires { member_limit + member_limit ≤ length slip.old }
     ensures { slip.new ≡ placed.charges ++ placed.called ++ drop (member_limit + member_limit) slip.old }
 {
     write(slip, 0, &placed.charges);

@@ -1,24 +1,43 @@
 -- What the proofs of the calls share: a call is judged and answered.
 use Prim.Native.Nat.{ℕ, ◌≤◌, ◌<◌}
-use mathlib.Core.Path.{◌≡◌, refl}
-use mathlib.Core.Bool.{Bool, false, ◌||◌}
-use native.Mathlib.Omega.{arith}
+use mathlib.Core.Path.{◌≡◌, refl, ap, sym, subst, ◌∙◌}
+use mathlib.Core.Bool.{Bool, false, true≢false, ◌||◌}
 use borrow.Author.Tests.{ltb-false}
 use lib.Dec.{eqb, ltb}
+use Rattle.std.specs.Prelude.{Option, Result, Some, None, Ok, Err, is_some}
 use Rattle.lists.specs.Checks.{check}
 use Rattle.lists.specs.Limits.{member_limit}
-use Rattle.lists.proofs.Checks.{check-lt, check_nlt, check_by, check_past, neither, no-refusal}
+use Rattle.lists.proofs.Checks.{check_by, check_past, neither}
+use Rattle.refusal.specs.Refusal.{position_of, answered}
+use Rattle.refusal.specs.declared.Refusal.{Refusal}
 use Rattle.admission.specs.Admission.{standing}
 use Rattle.admission.proofs.Passed.{passes, place}
-use Rattle.waterfall.specs.Register.{GivenBack}
+use Rattle.waterfall.specs.Register.{Register, GivenBack}
 use Rattle.waterfall.specs.Reply.{Layer, layer1, layer2, layer3, layer4, layer5, layer6, allocated, Says, nothing, judged}
+use Rattle.waterfall.specs.Parts.{handed_back}
 use Rattle.waterfall.specs.declared.Allocation.{Allocation}
-use Rattle.waterfall.specs.declared.Register.{Register}
-use Rattle.waterfall.specs.declared.Reply.{Reply}
-use Rattle.waterfall.specs.declared.Reply.TheVariants.{Refused, Accepted, Allocated}
 use Rattle.waterfall.specs.declared.Outcome.{Outcome}
 
--- what an accepted call says
+-- a test that is answered by itself, and what is answered by it
+pub is_refused : {e : Refusal} (o : Option Refusal) → answered o (tt {0}) ≡ Err e → o ≡ Some e
+is_refused (Some f) q = cc
+is_refused None q = absurd (cc)
+
+pub is_passed : (o : Option Refusal) → answered o (tt {0}) ≡ Ok (tt {0}) → o ≡ None
+is_passed (Some f) q = absurd (cc)
+is_passed None q = refl
+
+pub is_none : (o : Option Refusal) → is_some o ≡ false → o ≡ None
+is_none (Some f) q = absurd (true≢false q)
+is_none None q = refl
+
+pub refused : {A : Type 0} {e : Refusal} (x : A) {o : Option Refusal} → o ≡ Some e → Err e ≡ answered o x
+refused x q = sym (ap (λ o. answered o x) q)
+
+pub passed : {A : Type 0} (x : A) {o : Option Refusal} → o ≡ None → Ok x ≡ answered o x
+passed x q = sym (ap (λ o. answered o x) q)
+
+-- what an answer says, where its refusal is none of a record
 none-allocated : (l : Layer) → 0 ≡ allocated l nothing
 none-allocated layer1 = refl
 none-allocated layer2 = refl
@@ -27,45 +46,39 @@ none-allocated layer4 = refl
 none-allocated layer5 = refl
 none-allocated layer6 = refl
 
-pub says-accepted : Says Accepted 0 nothing
-unfolding check
-says-accepted = record { number_is = refl; position_is = refl; fallen_is = refl; layers_are = none-allocated; short_is = refl }
+-- no drill call is refused for a record
+abbrev pub Placeless : Option Refusal → Type 0
+Placeless (Some refusal) = position_of refusal ≡ 0
+Placeless None = Unit {0}
 
-pub says-allocated : (a : Allocation) → Says (Allocated a) 0 a
-unfolding check
-says-allocated a = record { number_is = refl; position_is = refl; fallen_is = refl; layers_are = λ l. refl; short_is = refl }
+pub placeless_check : (t : Bool) (refusal : Refusal) (rest : Option Refusal) → position_of refusal ≡ 0 → Placeless rest → Placeless (check t (Some refusal) rest)
+placeless_check t refusal rest p q = check_by Placeless t (Some refusal) rest (λ _. p) (λ _. q)
 
--- a call that is judged by `number`, answers `reply`, which says `a`, and hands back `next`
-module _ (number : ℕ) (r : Register) (reply : Reply) (next : Register) (a : Allocation) where
-  abbrev pub Promised : Outcome → Type 0
-  Promised o = (o ≡ judged number r reply next) × (GivenBack o.register × Says o.reply number a)
+pub placeless_standing : (r : Register) (member : ℕ) (rest : Option Refusal) → Placeless rest → Placeless (standing r.status member rest)
+placeless_standing r member rest p = placeless_check _ _ _ refl (placeless_check _ _ _ refl p)
 
-  -- `n` is the number that the code found
-  module _ (given : GivenBack r) (n : ℕ) (found : n ≡ number) where
-    pub refused : 0 < n → Promised (record { reply = Refused n; register = r })
-    unfolding judged
-    refused h =
-        let l : 0 < number = omega arith in
-        let said : Says (Refused n) number a =
-        record {
-          number_is = found;
-          position_is = refl;
-          fallen_is = check-lt _ _ 0 number l refl;
-          layers_are = λ k. check-lt _ _ 0 number l refl;
-          short_is = check-lt _ _ 0 number l refl;
-        } in
-        (rw found (check-lt _ _ 0 number l refl), (given, said))
+module _ (r next : Register) where
+  says : (refusal : Option Refusal) → Placeless refusal → Says (judged refusal r None next).reply refusal nothing
+  unfolding judged check
+  says (Some refusal) p = record { number_is = refl; position_is = p; fallen_is = refl; layers_are = λ l. refl; short_is = refl }
+  says None p = record { number_is = refl; position_is = refl; fallen_is = refl; layers_are = none-allocated; short_is = refl }
 
-    pub accepted : n ≤ 0 → (number ≡ 0 → GivenBack next) → Says reply 0 a → Promised (record { reply = reply; register = next })
-    unfolding judged
-    accepted z kept says =
-        let e : number ≡ 0 = omega arith in
-        (check_nlt _ _ 0 number (omega arith) refl, (kept e, rw e says))
+  pub says-allocated : (a : Allocation) (refusal : Option Refusal) → Placeless refusal → Says (judged refusal r (Some a) next).reply refusal a
+  unfolding judged check
+  says-allocated a (Some refusal) p = record { number_is = refl; position_is = p; fallen_is = refl; layers_are = λ l. refl; short_is = refl }
+  says-allocated a None p = record { number_is = refl; position_is = refl; fallen_is = refl; layers_are = λ l. refl; short_is = refl }
 
--- the register that it hands back
-pub given-judged : (number : ℕ) (r : Register) (reply : Reply) (next : Register) → GivenBack r → (number ≡ 0 → GivenBack next) → GivenBack (judged number r reply next).register
-unfolding judged
-given-judged number r reply next given kept = check_by (λ (o : Outcome). GivenBack o.register) _ _ _ (λ _. given) (λ e. kept (no-refusal number e))
+  -- a call that allocates nothing
+  handed : (refusal : Option Refusal) → handed_back r (answered refusal next) ≡ judged refusal r None next
+  unfolding judged
+  handed (Some refusal) = refl
+  handed None = refl
+
+  pub judged_call : {outcome : Outcome} {found : Result Register Refusal} (refusal : Option Refusal) → Placeless refusal
+      → outcome ≡ handed_back r found → found ≡ answered refusal next → (outcome ≡ judged refusal r None next) × Says outcome.reply refusal nothing
+  judged_call refusal p back is =
+      let value = back ∙ ap (handed_back r) is ∙ handed refusal in
+      (value, subst (λ (o : Outcome). Says o.reply refusal nothing) (sym value) (says refusal p))
 
 -- who passes 11, 12 and the refusal of an unfit amount has a place, and a fit amount
 pub record Fit (member : ℕ) (unfit : Bool) : Type 0 where
@@ -73,10 +86,10 @@ pub record Fit (member : ℕ) (unfit : Bool) : Type 0 where
   pub most : member ≤ member_limit
   pub fits : unfit ≡ false
 
-pub fit : (r : Register) (member reason : ℕ) (unfit : Bool) → GivenBack r → 0 < reason → standing r.status member (check unfit reason 0) ≡ 0 → Fit member unfit
-fit r member reason unfit g h e =
+pub fit : (r : Register) (member : ℕ) (reason : Refusal) (unfit : Bool) → GivenBack r → standing r.status member (check unfit (Some reason) None) ≡ None → Fit member unfit
+fit r member reason unfit g e =
     let at = place r.status member _ g.status_length e in
-    record { least = at.0; most = at.1; fits = (check_past unfit reason 0 (λ q. omega arith) (passes r.status member _ e).rest-none).0 }
+    record { least = at.0; most = at.1; fits = (check_past unfit (Some reason) None (λ q. cc) (passes r.status member _ e).rest-none).0 }
 
 -- an amount that is not unfit keeps the sum within its bound
 pub within_bound : (amount sum most : ℕ) → (eqb amount 0 || ltb most sum) ≡ false → sum ≤ most

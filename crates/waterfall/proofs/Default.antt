@@ -1,23 +1,23 @@
 -- Laws of a default: what it charges is what there is to place, no charge passes its pocket, and layers and ranks are charged in order.
 use Prim.Native.Nat.{ℕ, ◌+◌, ◌-◌, ◌≤◌, ◌<◌, min}
-use mathlib.Core.Path.{◌≡◌, refl, ap, ◌∙◌}
+use mathlib.Core.Path.{◌≡◌, ap, ◌∙◌}
 use mathlib.Core.Bool.{false}
 use mathlib.Core.List.{List}
 use native.Mathlib.Omega.{arith}
-use lib.Dec.{eqb}
 use lib.ListN.{length, get_or}
 use Rattle.lists.specs.Limits.{member_limit}
 use Rattle.lists.specs.Sums.{total, minus}
-use Rattle.lists.proofs.Places.{get_or-map_any}
 use Rattle.lists.proofs.Sums.{get_or-minus, keep-le}
-use Rattle.split.proofs.Laws.{exceeds-none, split-within, split_whole, total_within}
-use Rattle.figures.specs.Figures.{live, in_default, figure, replace, others}
+use Rattle.split.proofs.Laws.{exceeds-none, split-within, split_whole}
+use Rattle.figures.specs.Figures.{is_live, figure, replace, others}
+use Rattle.figures.specs.declared.Status.{Status}
+use Rattle.figures.proofs.Figures.{live_at}
 use Rattle.waterfall.specs.Default.{standing_of, rooms_of, fallen_call, to_place, on_margin, after1, on_contribution, after2, on_tranche1, after3, after4, on_tranche2, after5, on_calls, calls, shortfall, overdrawn}
-use Rattle.waterfall.specs.declared.Register.{Register}
+use Rattle.waterfall.specs.Register.{Register}
 
 -- a member that is in default, the defaulter too, is none of the others
-pub unmarked : (r : Register) (member k : ℕ) → get_or (replace r.status member in_default) k 0 ≡ in_default → get_or (others r.status member) k false ≡ false
-unmarked r member k e = get_or-map_any (eqb live) (replace r.status member in_default) k refl ∙ ap (eqb live) e
+pub unmarked : (r : Register) (member k : ℕ) → get_or (replace r.status member Status.InDefault) k Status.Absent ≡ Status.InDefault → get_or (others r.status member) k false ≡ false
+unmarked r member k e = live_at (replace r.status member Status.InDefault) k ∙ ap is_live e
 
 -- the rest of a cap is at most cap minus what was called
 pub rooms-within : (r : Register) (member k : ℕ) → get_or (rooms_of r member) k 0 ≤ get_or r.cap k 0 - get_or r.called k 0
@@ -36,14 +36,10 @@ pub charges-within : (r : Register) (member loss : ℕ) (charged : List ℕ) →
 charges-within r member loss charged f k = omega (arith, f.weighed k, keep-le (others r.status member) r.contribution k)
 
 module _ (r : Register) (member loss : ℕ) (charged : List ℕ) where
-  -- a call is at most the rest of its cap, and the calls are layer 6 together
+  -- a call is at most the rest of its cap
   pub calls-within : (k : ℕ) → get_or (calls r member loss charged) k 0 ≤ get_or (rooms_of r member) k 0
   unfolding calls on_calls
   calls-within k = split-within (on_calls r member loss charged) (rooms_of r member) (omega arith) k
-
-  pub calls-total : total (calls r member loss charged) ≡ on_calls r member loss charged
-  unfolding calls on_calls
-  calls-total = total_within (on_calls r member loss charged) (rooms_of r member) (omega arith)
 
   -- what each layer gives and what is left after it are what was left before it
   pub left1 : on_margin r member loss + after1 r member loss ≡ to_place r member loss

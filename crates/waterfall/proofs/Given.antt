@@ -1,22 +1,33 @@
 -- Each call gives back a register that satisfies `GivenBack`, of one that does.
-use Prim.Native.Nat.{ℕ, ◌+◌, ◌-◌, ◌≤◌, zero-le}
+use Prim.Native.Nat.{ℕ, zero, suc, ◌+◌, ◌-◌, ◌≤◌, zero-le}
 use mathlib.Core.Path.{◌≡◌, refl, sym, ◌∙◌}
-use mathlib.Core.List.{List}
+use mathlib.Core.List.{List, [], ◌∷◌}
 use native.Mathlib.Omega.{arith}
-use lib.Dec.{eqb}
-use lib.ListN.{length, get_or, length-set, length-map}
+use lib.ListN.{length, get_or, set, length-set}
 use Rattle.lists.specs.Limits.{member_limit, amount_limit}
 use Rattle.lists.specs.Sums.{total, minus}
-use Rattle.lists.proofs.Places.{set_all, set_both}
+use Rattle.lists.proofs.Places.{set_all}
 use Rattle.lists.proofs.Sums.{get_or_zeros, get_or-plus, get_or-minus, length-plus, length-minus, length-keep, unkept, get_or-le-total}
 use Rattle.split.proofs.Laws.{length-split}
-use Rattle.figures.specs.Figures.{live, in_default, figure, replace, none, others}
+use Rattle.figures.specs.Figures.{figure, replace, none, others}
+use Rattle.figures.specs.declared.Status.{Status}
 use Rattle.waterfall.specs.Register.{empty_register, GivenBack}
 use Rattle.waterfall.specs.Calls.{paid_of, replenished_of, closed_of}
 use Rattle.waterfall.specs.Default.{standing_of, rooms_of, on_margin, on_contribution, on_calls, calls, settled_of}
-use Rattle.waterfall.specs.declared.Register.{Register}
-use Rattle.figures.proofs.Figures.{figure-le_at}
+use Rattle.waterfall.specs.Register.{Register}
+use Rattle.figures.proofs.Figures.{figure-le_at, length-live}
 use Rattle.waterfall.proofs.Default.{unmarked, rooms-within, calls-within}
+
+-- what holds of two lists at each place holds once the same place of both is replaced
+set_pair : {A B : Type 0} (none-a : A) (none-b : B) (P : A → B → Type 0) (xs : List A) (ys : List B) (i : ℕ) (v : A) (w : B) → length xs ≡ length ys
+    → ((k : ℕ) → P (get_or xs k none-a) (get_or ys k none-b)) → P v w → (k : ℕ) → P (get_or (set xs i v) k none-a) (get_or (set ys i w) k none-b)
+set_pair none-a none-b P [] [] i v w e h p k = h k
+set_pair none-a none-b P [] (y ∷ ys) i v w e h p k = absurd (omega arith)
+set_pair none-a none-b P (x ∷ xs) [] i v w e h p k = absurd (omega arith)
+set_pair none-a none-b P (x ∷ xs) (y ∷ ys) zero v w e h p zero = p
+set_pair none-a none-b P (x ∷ xs) (y ∷ ys) zero v w e h p (suc k) = h (suc k)
+set_pair none-a none-b P (x ∷ xs) (y ∷ ys) (suc i) v w e h p zero = h zero
+set_pair none-a none-b P (x ∷ xs) (y ∷ ys) (suc i) v w e h p (suc k) = set_pair none-a none-b P xs ys i v w (omega arith) (λ n. h (suc n)) p k
 
 pub given_empty : GivenBack empty_register
 given_empty =
@@ -29,7 +40,6 @@ given_empty =
       cap_length = refl;
       outstanding_length = refl;
       called_length = refl;
-      status_known = λ k. omega (arith, zeros k);
       margin_fits = λ k. omega (arith, zeros k);
       contribution_fits = λ k. omega arith;
       requirement_fits = λ k. omega (arith, zeros k);
@@ -57,7 +67,6 @@ module _ (r : Register) (g : GivenBack r) where
         cap_length = g.cap_length;
         outstanding_length = simp length-set g.outstanding_length;
         called_length = g.called_length;
-        status_known = g.status_known;
         margin_fits = g.margin_fits;
         contribution_fits = g.contribution_fits;
         requirement_fits = g.requirement_fits;
@@ -65,7 +74,7 @@ module _ (r : Register) (g : GivenBack r) where
         called_fits = g.called_fits;
         outstanding_fits = fallen-figure (get_d' r.called) r.outstanding member amount g.outstanding_fits;
         defaulter_owes_none =
-            set_all (λ k x. get_or r.status k 0 ≡ in_default → x ≡ 0) r.outstanding (member - 1) _ g.defaulter_owes_none
+            set_all (λ k x. get_or r.status k Status.Absent ≡ Status.InDefault → x ≡ 0) r.outstanding (member - 1) _ g.defaulter_owes_none
             (λ e. omega (arith, figure-le_at r.outstanding member, g.defaulter_owes_none (member - 1) e));
         tranches_fit = g.tranches_fit;
       }
@@ -84,7 +93,6 @@ module _ (r : Register) (g : GivenBack r) where
         cap_length = g.cap_length;
         outstanding_length = g.outstanding_length;
         called_length = g.called_length;
-        status_known = g.status_known;
         margin_fits = g.margin_fits;
         contribution_fits =
             set_all (λ k x. x ≤ get_or r.requirement k 0) r.contribution (member - 1) _ g.contribution_fits
@@ -110,7 +118,6 @@ module _ (r : Register) (g : GivenBack r) where
         cap_length = g.cap_length;
         outstanding_length = g.outstanding_length;
         called_length = refl;
-        status_known = g.status_known;
         margin_fits = g.margin_fits;
         contribution_fits = g.contribution_fits;
         requirement_fits = g.requirement_fits;
@@ -123,7 +130,7 @@ module _ (r : Register) (g : GivenBack r) where
 
   -- the length of the kept lists of a default
   pub length-others : (member : ℕ) → length (others r.status member) ≡ member_limit
-  length-others member = length-map (replace r.status member in_default) (eqb live) ∙ length-set r.status (member - 1) in_default ∙ g.status_length
+  length-others member = length-live (replace r.status member Status.InDefault) ∙ length-set r.status (member - 1) Status.InDefault ∙ g.status_length
 
   length-rooms : (member : ℕ) → length (rooms_of r member) ≡ member_limit
   unfolding rooms_of
@@ -139,7 +146,7 @@ module _ (r : Register) (g : GivenBack r) where
   length-standing member = length-keep (others r.status member) r.contribution (length-others member ∙ sym g.contribution_length) ∙ g.contribution_length
 
   -- a member that is in default, the defaulter too, is not called
-  pub uncalled : (member loss : ℕ) (charged : List ℕ) (k : ℕ) → get_or (replace r.status member in_default) k 0 ≡ in_default → get_or (calls r member loss charged) k 0 ≡ 0
+  pub uncalled : (member loss : ℕ) (charged : List ℕ) (k : ℕ) → get_or (replace r.status member Status.InDefault) k Status.Absent ≡ Status.InDefault → get_or (calls r member loss charged) k 0 ≡ 0
   unfolding rooms_of
   uncalled member loss charged k e =
       omega (
@@ -166,7 +173,6 @@ module _ (r : Register) (g : GivenBack r) where
         cap_length = g.cap_length;
         outstanding_length = length-plus (replace r.outstanding member 0) calling (lo ∙ sym lc) ∙ lo;
         called_length = length-plus called calling (g.called_length ∙ sym lc) ∙ g.called_length;
-        status_known = set_all (λ k x. x ≤ in_default) r.status (member - 1) in_default g.status_known (omega arith);
         margin_fits = fallen-figure (λ k. amount_limit) r.margin member (on_margin r member loss) g.margin_fits;
         contribution_fits = λ k.
             omega (arith, get_or-minus own charged k, fallen-figure (λ n. get_or r.requirement n 0) r.contribution member (on_contribution r member loss) g.contribution_fits k);
@@ -185,7 +191,7 @@ module _ (r : Register) (g : GivenBack r) where
               arith,
               get_or-plus (replace r.outstanding member 0) calling k,
               uncalled member loss charged k s,
-              set_both (λ n a b. a ≡ in_default → b ≡ 0) r.status r.outstanding (member - 1) in_default 0
+              set_pair Status.Absent 0 (λ a b. a ≡ Status.InDefault → b ≡ 0) r.status r.outstanding (member - 1) Status.InDefault 0
                   (g.status_length ∙ sym g.outstanding_length) g.defaulter_owes_none (λ _. refl) k s,
             );
         tranches_fit = omega (arith, g.tranches_fit);

@@ -1,8 +1,8 @@
 -- The laws that the proofs of `waterfall` and the crates above cite.
-pub mod Answer
 pub mod Default
 pub mod Given
 pub mod Pooled
-pub mod Entered
+pub mod Answer
 pub mod Placing
+pub mod Entered
 pub mod OnePool

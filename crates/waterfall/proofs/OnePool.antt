@@ -1,41 +1,51 @@
 -- "A one-pool default answers as before.": the same answer, register and slip as the default of document 01.
 use Prim.Native.Nat.{ℕ, ◌+◌, ◌≤◌, ◌<◌}
-use mathlib.Core.Path.{◌≡◌, refl, ap, ◌∙◌}
-use mathlib.Core.Bool.{false, not}
-use mathlib.Core.List.{List, [], ◌∷◌}
+use mathlib.Core.Path.{◌≡◌, refl, ap, sym, ◌∙◌}
+use mathlib.Core.Bool.{false, not, true≢false}
+use mathlib.Core.List.{List, [], ◌∷◌, map}
 use native.Mathlib.Omega.{arith}
-use borrow.Author.Tests.{ltb-false, eqb-true, eqb-false, not-false}
+use borrow.Author.Tests.{ltb-false, eqb-true, not-false}
 use lib.Dec.{eqb, ltb}
-use lib.ListN.{length, get_or, take}
+use lib.ListN.{length, get_or}
 use lib.Seq.{take_all}
-use Rattle.lists.specs.Checks.{check, refuses}
+use Rattle.std.specs.Prelude.{Option, Some, None, is_some}
+use Rattle.std.specs.List.{range_with_len}
+use Rattle.lists.specs.Checks.{check}
 use Rattle.lists.specs.Limits.{member_limit, rank_limit, sum_limit}
 use Rattle.lists.specs.Sums.{total}
 use Rattle.lists.proofs.Cases.{or-false}
-use Rattle.lists.proofs.Checks.{check_same, check_skip, no-refusal, neither}
+use Rattle.lists.proofs.Checks.{check_same, check_skip, neither}
 use Rattle.lists.proofs.Sums.{single, kept_mark, mark-within}
-use Rattle.figures.specs.Figures.{absent, in_default, figure, others}
-use Rattle.admission.specs.Admission.{unready, misranked, admission, losses_of, miscounted, excessive_losses, pools_unready, pools_misranked, pools_admission}
+use Rattle.refusal.specs.declared.Refusal.{Refusal}
+use Rattle.figures.specs.Figures.{status_at, is_absent, is_in-default, others}
+use Rattle.admission.specs.Admission.{unready, misranked, admission, loss_of, losses_of, miscounted, excessive_losses, pools_unready, pools_misranked, pools_admission}
 use Rattle.admission.specs.declared.Pools.{Pools}
 use Rattle.admission.proofs.Admitted.{Admitted, admitted}
 use Rattle.admission.proofs.Ranked.{ranks-read}
 use Rattle.pools.specs.Pools.{charges_by_pools}
 use Rattle.pools.proofs.Laws.{one_pool_lem}
-use Rattle.waterfall.specs.Register.{GivenBack}
+use Rattle.waterfall.specs.Register.{Register, GivenBack}
 use Rattle.waterfall.specs.Default.{standing_of, charges, after3, allocation_of, settled_of, overdrawn, slip_of, default_refusal, default_of, default_slip}
 use Rattle.waterfall.specs.Pools.{loss_together, pool_sums, pooled_charges, pooled_allocation, pooled_refusal, pooled_of, pooled_slip, AsBefore}
 use Rattle.waterfall.specs.Reply.{judged}
-use Rattle.waterfall.specs.declared.Register.{Register}
-use Rattle.waterfall.specs.declared.Reply.TheVariants.{Allocated}
+use Rattle.waterfall.specs.Register.{Register}
+use Rattle.waterfall.specs.declared.Allocation.{Allocation}
+use Rattle.waterfall.proofs.Answer.{is_none}
 use Rattle.waterfall.proofs.Given.{length-others, length-standing}
 use Rattle.waterfall.proofs.Pooled.{length_pool-sums, total_pool-sums}
 
+-- two calls that are judged alike, and are accepted alike
+judged_same : (refusal : Option Refusal) (r : Register) (a b : Option Allocation) (x y : Register) → (refusal ≡ None → (a ≡ b) × (x ≡ y)) → judged refusal r a x ≡ judged refusal r b y
+unfolding judged
+judged_same (Some refusal) r a b x y same = refl
+judged_same None r a b x y same = rw ((same refl).0, (same refl).1)
+
 module _ (r : Register) (g : GivenBack r) (member : ℕ) (pools : Pools) (one : pools.count ≡ 1) (ranks : List ℕ) where
   abbrev loss : ℕ
-  loss = pools.loss1
+  loss = loss_of pools 0
 
   only : losses_of pools ≡ loss ∷ []
-  only = ap (λ (n : ℕ). take n (pools.loss1 ∷ pools.loss2 ∷ pools.loss3 ∷ pools.loss4 ∷ [])) one
+  only = ap (λ (n : ℕ). map (loss_of pools) (range_with_len 0 n)) one
 
   together : loss_together pools ≡ loss
   together = ap total only ∙ omega arith
@@ -63,7 +73,6 @@ module _ (r : Register) (g : GivenBack r) (member : ℕ) (pools : Pools) (one : 
   counted = ap miscounted one
 
   thirteen : excessive_losses (losses_of pools) ≡ ltb sum_limit loss
-  unfolding excessive_losses
   thirteen = ap excessive_losses only ∙ or-false (ltb sum_limit loss)
 
   fourteen : (slip : ℕ) → pools_unready pools.count (length ranks) slip ≡ unready (length ranks) slip
@@ -78,20 +87,20 @@ module _ (r : Register) (g : GivenBack r) (member : ℕ) (pools : Pools) (one : 
       ap (pools_misranked (others r.status member) ranks) one
       ∙ ap (misranked (others r.status member)) (take_all member_limit ranks (omega (arith, l)))
 
-  same-admission : (rest rest' : ℕ) (slip : ℕ) → (Admitted r.status member loss ranks slip → rest ≡ rest')
+  same-admission : (rest rest' : Option Refusal) (slip : ℕ) → (Admitted r.status member loss ranks slip → rest ≡ rest')
       → pools_admission r.status member pools ranks slip rest ≡ admission r.status member loss ranks slip rest'
   same-admission rest rest' slip same =
-      check_same (eqb (figure r.status member) absent) (eqb (figure r.status member) absent) 11 _ _ refl (λ p11.
-      check_same (eqb (figure r.status member) in_default) (eqb (figure r.status member) in_default) 12 _ _ refl (λ p12.
-      check_skip (miscounted pools.count) 21 _ _ counted
-      (check_same (excessive_losses (losses_of pools)) (ltb sum_limit loss) 13 _ _ thirteen (λ p13.
-      check_skip (ltb sum_limit (total (losses_of pools))) 22 _ _ (ap (ltb sum_limit) together ∙ p13)
-      (check_same (pools_unready pools.count (length ranks) slip) (unready (length ranks) slip) 14 _ _ (fourteen slip) (λ p14.
-      check_same (pools_misranked (others r.status member) ranks pools.count) (misranked (others r.status member) ranks) 15 _ _ (fifteen (sixty-four slip p14)) (λ p15.
+      check_same (is_absent (status_at r.status member)) (is_absent (status_at r.status member)) (Some Refusal.Unregistered) _ _ refl (λ p11.
+      check_same (is_in-default (status_at r.status member)) (is_in-default (status_at r.status member)) (Some Refusal.InDefault) _ _ refl (λ p12.
+      check_skip (miscounted pools.count) (Some Refusal.Miscounted) _ _ counted
+      (check_same (excessive_losses (losses_of pools)) (ltb sum_limit loss) (Some Refusal.ExcessiveLoss) _ _ thirteen (λ p13.
+      check_skip (ltb sum_limit (total (losses_of pools))) (Some Refusal.ExcessiveLosses) _ _ (ap (ltb sum_limit) together ∙ p13)
+      (check_same (pools_unready pools.count (length ranks) slip) (unready (length ranks) slip) (Some Refusal.Unready) _ _ (fourteen slip) (λ p14.
+      check_same (pools_misranked (others r.status member) ranks pools.count) (misranked (others r.status member) ranks) (Some Refusal.Misranked) _ _ (fifteen (sixty-four slip p14)) (λ p15.
       same
       record {
-        present = eqb-false _ _ p11;
-        not_in-default = eqb-false _ _ p12;
+        present = λ q. true≢false (sym (ap is_absent q) ∙ p11);
+        not_in-default = λ q. true≢false (sym (ap is_in-default q) ∙ p12);
         loss_fits = ltb-false sum_limit loss p13;
         ranks_length = sixty-four slip p14;
         slip-length = ltb-false slip (member_limit + member_limit) (neither (not (eqb (length ranks) member_limit)) (ltb slip (member_limit + member_limit)) p14).1;
@@ -103,29 +112,31 @@ module _ (r : Register) (g : GivenBack r) (member : ℕ) (pools : Pools) (one : 
   same-refusal slip =
       same-admission _ _ (length slip)
       (λ a.
-      ap (λ (l : ℕ). check (overdrawn r member l (pooled_charges r member pools ranks)) 19 0) together
-      ∙ ap (λ (cs : List ℕ). check (overdrawn r member loss cs) 19 0) (same-charges (length slip) a))
+      ap (λ (l : ℕ). check (overdrawn r member l (pooled_charges r member pools ranks)) (Some Refusal.Overdrawn) None) together
+      ∙ ap (λ (cs : List ℕ). check (overdrawn r member loss cs) (Some Refusal.Overdrawn) None) (same-charges (length slip) a))
 
   -- where nothing is refused
-  accepted_same : (slip : List ℕ) → default_refusal r member loss ranks slip ≡ 0 → pooled_charges r member pools ranks ≡ charges r member loss ranks
+  accepted_same : (slip : List ℕ) → default_refusal r member loss ranks slip ≡ None → pooled_charges r member pools ranks ≡ charges r member loss ranks
   unfolding default_refusal
   accepted_same slip e = same-charges (length slip) (admitted r.status member loss ranks (length slip) _ e)
 
   one_pool-answers : (slip : List ℕ) → pooled_of r member pools ranks slip ≡ default_of r member loss ranks slip
-  unfolding pooled_of default_of pooled_allocation judged
+  unfolding pooled_of default_of pooled_allocation
   one_pool-answers slip =
-      ap (λ (n : ℕ). judged n r (Allocated (pooled_allocation r member pools ranks)) (settled_of r member (loss_together pools) (pooled_charges r member pools ranks))) (same-refusal slip)
-      ∙ check_same (refuses (default_refusal r member loss ranks slip)) (refuses (default_refusal r member loss ranks slip)) _ _ _ refl (λ p.
-      let e = accepted_same slip (no-refusal _ p) in
-      ap (λ (l : ℕ). record { reply = Allocated (allocation_of r member l (pooled_charges r member pools ranks)); register = settled_of r member l (pooled_charges r member pools ranks) }) together
-      ∙ ap (λ (cs : List ℕ). record { reply = Allocated (allocation_of r member loss cs); register = settled_of r member loss cs }) e)
+      ap (λ (o : Option Refusal). judged o r (Some (pooled_allocation r member pools ranks)) (settled_of r member (loss_together pools) (pooled_charges r member pools ranks))) (same-refusal slip)
+      ∙ judged_same (default_refusal r member loss ranks slip) r _ _ _ _ (λ e.
+      let charged = accepted_same slip e in (
+        ap (λ (l : ℕ). Some (allocation_of r member l (pooled_charges r member pools ranks))) together
+            ∙ ap (λ (cs : List ℕ). Some (allocation_of r member loss cs)) charged,
+        ap (λ (l : ℕ). settled_of r member l (pooled_charges r member pools ranks)) together ∙ ap (settled_of r member loss) charged,
+      ))
 
   one_pool-slip : (slip : List ℕ) → pooled_slip r member pools ranks slip ≡ default_slip r member loss ranks slip
   unfolding pooled_slip default_slip
   one_pool-slip slip =
-      check_same (refuses (pooled_refusal r member pools ranks slip)) (refuses (default_refusal r member loss ranks slip)) _ _ _ (ap refuses (same-refusal slip)) (λ p.
+      check_same (is_some (pooled_refusal r member pools ranks slip)) (is_some (default_refusal r member loss ranks slip)) _ _ _ (ap is_some (same-refusal slip)) (λ p.
       ap (λ (l : ℕ). slip_of r member l (pooled_charges r member pools ranks) slip) together
-      ∙ ap (λ (cs : List ℕ). slip_of r member loss cs slip) (accepted_same slip (no-refusal _ p)))
+      ∙ ap (λ (cs : List ℕ). slip_of r member loss cs slip) (accepted_same slip (is_none _ p)))
 
   pub one_pool_as-before : (slip : List ℕ) → AsBefore r member pools ranks slip
   one_pool_as-before slip = record { answer_and_register = one_pool-answers slip; slip_as_left = one_pool-slip slip }

@@ -14,7 +14,7 @@ use Rattle.pools.proofs.Laws.{length_by-pools, by-pools-within, by-pools-placed,
 use Rattle.waterfall.specs.Register.{GivenBack}
 use Rattle.waterfall.specs.Default.{standing_of, fallen_call, to_place, after3}
 use Rattle.waterfall.specs.Pools.{loss_together, given_before, pool_sums, pooled_charges}
-use Rattle.waterfall.specs.declared.Register.{Register}
+use Rattle.waterfall.specs.Register.{Register}
 use Rattle.waterfall.proofs.Default.{Layer4, left1, left2, left3}
 use Rattle.waterfall.proofs.Given.{length-standing}
 
@@ -22,12 +22,12 @@ module _ (r : Register) (member : ℕ) (pools : Pools) (some : 0 < pools.count) 
   -- as many sums as pools, and together what layers 1 to 3 leave
   pub length_pool-sums : length (pool_sums r member pools) ≡ pools.count
   unfolding pool_sums
-  length_pool-sums = counted-sums (given_before r member pools) (fallen_call r member) pools few
+  length_pool-sums = counted-sums (given_before r member pools) (fallen_call r member) pools
 
   pub total_pool-sums : total (pool_sums r member pools) ≡ after3 r member (loss_together pools)
   unfolding pool_sums given_before to_place
   total_pool-sums =
-      total-sums (given_before r member pools) (fallen_call r member) (losses_of pools) (omega (arith, length-losses pools few))
+      total-sums (given_before r member pools) (fallen_call r member) (losses_of pools) (omega (arith, length-losses pools))
       ∙ omega (arith, left1 r member (loss_together pools) [], left2 r member (loss_together pools) [], left3 r member (loss_together pools) [])
 
   -- what is known of layer 4

@@ -1,18 +1,19 @@
 -- Document 01, "Declaring a default": what a default of a member does, layer by layer. Layer 4's charges are those of one pool here, by rank over
 -- standing contributions; those of several pools (document 02, request 3), and the default that the calls make, are in Pools.antt. The other layers are the same.
-use Rattle.std.specs.Prelude.{ℕ, ◌+◌, ◌-◌, Bool, ◌||◌, List, ◌++◌, length, drop}
-use Rattle.lists.specs.Checks.{check, refuses}
+use Rattle.std.specs.Prelude.{ℕ, ◌+◌, ◌-◌, Bool, ◌||◌, List, ◌++◌, length, drop, Option, Some, None, is_some}
+use Rattle.lists.specs.Checks.{check}
 use Rattle.lists.specs.Limits.{member_limit}
 use Rattle.lists.specs.Sums.{total, plus, minus, keep}
+use Rattle.refusal.specs.declared.Refusal.{Refusal}
 use Rattle.split.specs.Split.{split_of, exceeds}
 use Rattle.ranks.specs.Ranks.{charges_of}
-use Rattle.figures.specs.Figures.{in_default, figure, replace, others}
+use Rattle.figures.specs.Figures.{figure, replace, others}
+use Rattle.figures.specs.declared.Status.{Status}
 use Rattle.admission.specs.Admission.{admission}
 use Rattle.rooms.specs.Rooms.{gives, rooms}
+use Rattle.waterfall.specs.Register.{Register}
 use Rattle.waterfall.specs.Reply.{judged}
-use Rattle.waterfall.specs.declared.Register.{Register}
 use Rattle.waterfall.specs.declared.Allocation.{Allocation}
-use Rattle.waterfall.specs.declared.Reply.TheVariants.{Allocated}
 use Rattle.waterfall.specs.declared.Outcome.{Outcome}
 
 -- "the fallen call": the defaulter's outstanding call
@@ -31,12 +32,10 @@ rooms_of r member = rooms (others r.status member) r.cap r.called
 -- is then in default for good." Its fallen call "is no longer outstanding".
 abbrev pub settled_by : Register → ℕ → ℕ → ℕ → ℕ → ℕ → List ℕ → List ℕ → Register
 settled_by r member margin contribution tranche1 tranche2 charges calls =
-    record {
-      status = replace r.status member in_default;
+    record r {
+      status = replace r.status member Status.InDefault;
       margin = replace r.margin member (figure r.margin member - margin);
       contribution = minus (replace r.contribution member (figure r.contribution member - contribution)) charges;
-      requirement = r.requirement;
-      cap = r.cap;
       outstanding = plus (replace r.outstanding member 0) calls;
       called = plus r.called calls;
       tranche1 = r.tranche1 - tranche1;
@@ -123,15 +122,15 @@ unfoldable pub charges : Register → ℕ → ℕ → List ℕ → List ℕ
 charges r member loss ranks = charges_of (after3 r member loss) (standing_of r member) ranks
 
 -- 11 to 15, then 19
-unfoldable pub default_refusal : Register → ℕ → ℕ → List ℕ → List ℕ → ℕ
+unfoldable pub default_refusal : Register → ℕ → ℕ → List ℕ → List ℕ → Option Refusal
 default_refusal r member loss ranks slip =
     admission r.status member loss ranks (length slip)
-    (check (overdrawn r member loss (charges r member loss ranks)) 19
-    0)
+    (check (overdrawn r member loss (charges r member loss ranks)) (Some Refusal.Overdrawn)
+    None)
 
 unfoldable pub default_of : Register → ℕ → ℕ → List ℕ → List ℕ → Outcome
 default_of r member loss ranks slip =
-    judged (default_refusal r member loss ranks slip) r (Allocated (allocation_of r member loss (charges r member loss ranks))) (settled_of r member loss (charges r member loss ranks))
+    judged (default_refusal r member loss ranks slip) r (Some (allocation_of r member loss (charges r member loss ranks))) (settled_of r member loss (charges r member loss ranks))
 
 unfoldable pub default_slip : Register → ℕ → ℕ → List ℕ → List ℕ → List ℕ
-default_slip r member loss ranks slip = check (refuses (default_refusal r member loss ranks slip)) slip (slip_of r member loss (charges r member loss ranks) slip)
+default_slip r member loss ranks slip = check (is_some (default_refusal r member loss ranks slip)) slip (slip_of r member loss (charges r member loss ranks) slip)

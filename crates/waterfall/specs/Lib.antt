@@ -1,5 +1,6 @@
 -- The definitions that the contracts of `waterfall` cite.
 pub mod Register
+pub mod Inside
 pub mod Opening
 pub mod Reply
 pub mod Default

@@ -1,14 +1,13 @@
 -- Document 01, "The opening register": a register sheet and our own contribution G.
-use Rattle.std.specs.Prelude.{ℕ, ◌-◌, ◌*◌, ◌/◌, List, map, ltb}
-use Rattle.lists.specs.Checks.{check, refuses}
+use Rattle.std.specs.Prelude.{ℕ, ◌-◌, ◌*◌, ◌/◌, List, map, ltb, Option, Some, is_some}
+use Rattle.lists.specs.Checks.{check}
 use Rattle.lists.specs.Limits.{member_limit, sum_limit, contribution_floor}
+use Rattle.refusal.specs.declared.Refusal.{Refusal}
 use Rattle.sheets.specs.Columns.{columns_of}
-use Rattle.sheets.specs.Sheet.{refusal, missized, member_refusal}
-use Rattle.sheets.specs.declared.Refusal.{Refusal}
+use Rattle.sheets.specs.Sheet.{missized, member_refusal}
 use Rattle.sheets.specs.declared.columns.Columns.{Columns}
 use Rattle.figures.specs.Figures.{none, status_of}
-use Rattle.waterfall.specs.Register.{empty_register}
-use Rattle.waterfall.specs.declared.Register.{Register}
+use Rattle.waterfall.specs.Register.{Register, empty_register}
 use Rattle.waterfall.specs.declared.Opened.{Opened}
 
 -- "The first tranche is 60G/100 rounded down, the second is the rest"
@@ -38,16 +37,16 @@ unfoldable pub opening_register : List ℕ → ℕ → Register
 opening_register sheet g = entered_of (columns_of sheet) g
 
 -- 1. "A sheet is empty, overlong or not whole records." 2. "A sum handed to opening or sizing is above 25,600,000,000." Then 4 to 7.
-unfoldable pub opening_refusal : List ℕ → ℕ → Refusal
+unfoldable pub opening_refusal : List ℕ → ℕ → Option Refusal
 opening_refusal sheet g =
-    check (missized member_limit sheet) (refusal 1 0)
-    (check (ltb sum_limit g) (refusal 2 0)
+    check (missized member_limit sheet) (Some Refusal.Missized)
+    (check (ltb sum_limit g) (Some Refusal.ExcessiveSum)
     (member_refusal contribution_floor sheet))
 
 -- "A refused opening hands back a register with no members and both tranches 0."
-unfoldable pub opened_of : List ℕ → ℕ → Opened
+abbrev pub opened_of : List ℕ → ℕ → Opened
 opened_of sheet g =
     record {
       refusal = opening_refusal sheet g;
-      register = check (refuses (opening_refusal sheet g).number) empty_register (opening_register sheet g);
+      register = check (is_some (opening_refusal sheet g)) empty_register (opening_register sheet g);
     }

@@ -1,16 +1,16 @@
 -- Document 02, request 3, "Several auction pools in one default": the default that the calls make. Layers 1 to 3, 5 and 6 are those of Default.antt, the
 -- losses of the pools being one loss together; layer 4 is charged pool by pool.
-use Rattle.std.specs.Prelude.{ℕ, ◌+◌, ◌≡◌, List, length}
-use Rattle.lists.specs.Checks.{check, refuses}
+use Rattle.std.specs.Prelude.{ℕ, ◌+◌, ◌≡◌, List, length, Option, Some, None, is_some}
+use Rattle.lists.specs.Checks.{check}
 use Rattle.lists.specs.Sums.{total}
-use Rattle.admission.specs.Admission.{losses_of, pools_admission}
+use Rattle.refusal.specs.declared.Refusal.{Refusal}
+use Rattle.admission.specs.Admission.{loss_of, losses_of, pools_admission}
 use Rattle.admission.specs.declared.Pools.{Pools}
 use Rattle.pools.specs.Pools.{sums_of, portions_of, charges_in, charges_by_pools}
 use Rattle.waterfall.specs.Default.{fallen_call, standing_of, on_margin, on_contribution, on_tranche1, allocation_of, settled_of, overdrawn, slip_of, default_of, default_slip}
+use Rattle.waterfall.specs.Register.{Register}
 use Rattle.waterfall.specs.Reply.{judged}
 use Rattle.waterfall.specs.declared.Allocation.{Allocation}
-use Rattle.waterfall.specs.declared.Register.{Register}
-use Rattle.waterfall.specs.declared.Reply.TheVariants.{Allocated}
 use Rattle.waterfall.specs.declared.Outcome.{Outcome}
 
 -- all pool losses
@@ -43,20 +43,20 @@ module _ (r : Register) (member : ℕ) (pools : Pools) where
     pooled_allocation = allocation_of r member (loss_together pools) pooled_charges
 
     -- 11, 12, 21, 13, 22, 14, 15, then 19
-    unfoldable pub pooled_refusal : List ℕ → ℕ
+    unfoldable pub pooled_refusal : List ℕ → Option Refusal
     pooled_refusal slip =
         pools_admission r.status member pools ranks (length slip)
-        (check (overdrawn r member (loss_together pools) pooled_charges) 19
-        0)
+        (check (overdrawn r member (loss_together pools) pooled_charges) (Some Refusal.Overdrawn)
+        None)
 
     unfoldable pub pooled_of : List ℕ → Outcome
-    pooled_of slip = judged (pooled_refusal slip) r (Allocated pooled_allocation) (settled_of r member (loss_together pools) pooled_charges)
+    pooled_of slip = judged (pooled_refusal slip) r (Some pooled_allocation) (settled_of r member (loss_together pools) pooled_charges)
 
     unfoldable pub pooled_slip : List ℕ → List ℕ
-    pooled_slip slip = check (refuses (pooled_refusal slip)) slip (slip_of r member (loss_together pools) pooled_charges slip)
+    pooled_slip slip = check (is_some (pooled_refusal slip)) slip (slip_of r member (loss_together pools) pooled_charges slip)
 
 -- "A one-pool default answers as before.": the answer, the register and the slip are those of Default.antt. Theorem `one_pool_as-before` in
 -- proofs/OnePool.antt, of every register that was given back.
 pub record AsBefore (r : Register) (member : ℕ) (pools : Pools) (ranks slip : List ℕ) : Type 0 where
-  pub answer_and_register : pooled_of r member pools ranks slip ≡ default_of r member pools.loss1 ranks slip
-  pub slip_as_left : pooled_slip r member pools ranks slip ≡ default_slip r member pools.loss1 ranks slip
+  pub answer_and_register : pooled_of r member pools ranks slip ≡ default_of r member (loss_of pools 0) ranks slip
+  pub slip_as_left : pooled_slip r member pools ranks slip ≡ default_slip r member (loss_of pools 0) ranks slip

@@ -1,34 +1,36 @@
 -- What a drill call answers, in document 01's numbers and values.
-use Rattle.std.specs.Prelude.{ℕ, ◌≡◌}
-use Rattle.lists.specs.Checks.{check, refuses}
+use Rattle.std.specs.Prelude.{ℕ, ◌≡◌, Option, Result, Some, None, Ok, Err, is_some}
+use Rattle.lists.specs.Checks.{check}
+use Rattle.refusal.specs.Refusal.{number_of, position_of, refused_number}
+use Rattle.refusal.specs.declared.Refusal.{Refusal}
+use Rattle.waterfall.specs.Register.{Register}
 use Rattle.waterfall.specs.declared.Allocation.{Allocation}
-use Rattle.waterfall.specs.declared.Register.{Register}
-use Rattle.waterfall.specs.declared.Reply.{Reply}
-use Rattle.waterfall.specs.declared.Reply.TheVariants.{Refused, Accepted, Allocated}
 use Rattle.waterfall.specs.declared.Outcome.{Outcome}
+
+-- a refusal, or that the call is accepted; an accepted default answers its allocation
+abbrev pub Reply : Type 0
+Reply = Result (Option Allocation) Refusal
 
 -- "A refusal carries its number": 0 where the call was accepted
 abbrev pub reply_number : Reply → ℕ
-reply_number (Refused number) = number
-reply_number Accepted = 0
-reply_number (Allocated a) = 0
+reply_number (Err refusal) = number_of refusal
+reply_number (Ok accepted) = 0
 
 -- "and, for 4 to 8, the record's place counted from 1 (0 for the others)": no drill call is refused with 4 to 8
 abbrev pub reply_position : Reply → ℕ
-reply_position (Refused number) = 0
-reply_position Accepted = 0
-reply_position (Allocated a) = 0
+reply_position (Err refusal) = position_of refusal
+reply_position (Ok accepted) = 0
 
 -- "The answer carries the fallen call, six layer totals and shortfall."; "every other number of its answer is 0"
 abbrev pub fallen_of : Reply → ℕ
-fallen_of (Refused number) = 0
-fallen_of Accepted = 0
-fallen_of (Allocated a) = a.fallen
+fallen_of (Err refusal) = 0
+fallen_of (Ok None) = 0
+fallen_of (Ok (Some a)) = a.fallen
 
 abbrev pub short_of : Reply → ℕ
-short_of (Refused number) = 0
-short_of Accepted = 0
-short_of (Allocated a) = a.short
+short_of (Err refusal) = 0
+short_of (Ok None) = 0
+short_of (Ok (Some a)) = a.short
 
 -- the six layers by number
 pub data Layer : Type 0 where
@@ -43,9 +45,9 @@ allocated layer5 a = a.tranche2
 allocated layer6 a = a.calls
 
 abbrev pub layer_of : Layer → Reply → ℕ
-layer_of l (Refused number) = 0
-layer_of l Accepted = 0
-layer_of l (Allocated a) = allocated l a
+layer_of l (Err refusal) = 0
+layer_of l (Ok None) = 0
+layer_of l (Ok (Some a)) = allocated l a
 
 -- "These three calls answer only that they were accepted.": payment, replenishment and close allocate nothing
 abbrev pub nothing : Allocation
@@ -62,17 +64,15 @@ nothing =
     }
 
 -- An answer in the paper's numbers and values: the number of its refusal, and what it carries of an allocation where there is none.
-pub record Says (reply : Reply) (number : ℕ) (allocation : Allocation) : Type 0 where
-  pub number_is : reply_number reply ≡ number
+pub record Says (reply : Reply) (refusal : Option Refusal) (allocation : Allocation) : Type 0 where
+  pub number_is : reply_number reply ≡ refused_number refusal
   pub position_is : reply_position reply ≡ 0
-  pub fallen_is : fallen_of reply ≡ check (refuses number) 0 allocation.fallen
-  pub layers_are : (l : Layer) → layer_of l reply ≡ check (refuses number) 0 (allocated l allocation)
-  pub short_is : short_of reply ≡ check (refuses number) 0 allocation.short
+  pub fallen_is : fallen_of reply ≡ check (is_some refusal) 0 allocation.fallen
+  pub layers_are : (l : Layer) → layer_of l reply ≡ check (is_some refusal) 0 (allocated l allocation)
+  pub short_is : short_of reply ≡ check (is_some refusal) 0 allocation.short
 
 -- A call is judged and answered: the first refusal that applies leaves the register as it is ("register and slips stay untouched");
--- where none does, the call answers `reply` and hands back `next`.
-unfoldable pub judged : ℕ → Register → Reply → Register → Outcome
-judged number r reply next =
-    check (refuses number)
-    (record { reply = Refused number; register = r })
-    (record { reply = reply; register = next })
+-- where none does, the call is accepted, answers what it allocates and hands back `next`.
+unfoldable pub judged : Option Refusal → Register → Option Allocation → Register → Outcome
+judged (Some refusal) r allocation next = record { reply = Err refusal; register = r }
+judged None r allocation next = record { reply = Ok allocation; register = next }

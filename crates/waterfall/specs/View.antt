@@ -1,7 +1,7 @@
 -- What a host prints of a register.
 use Rattle.std.specs.Prelude.{ℕ}
-use Rattle.figures.specs.Figures.{figure}
-use Rattle.waterfall.specs.declared.Register.{Register}
+use Rattle.figures.specs.Figures.{figure, status_at}
+use Rattle.waterfall.specs.Register.{Register}
 use Rattle.waterfall.specs.declared.view.MemberView.{MemberView}
 use Rattle.waterfall.specs.declared.view.TranchesView.{TranchesView}
 
@@ -9,7 +9,7 @@ use Rattle.waterfall.specs.declared.view.TranchesView.{TranchesView}
 abbrev pub figures_of : Register → ℕ → MemberView
 figures_of r member =
     record {
-      status = figure r.status member;
+      status = status_at r.status member;
       margin = figure r.margin member;
       contribution = figure r.contribution member;
       requirement = figure r.requirement member;

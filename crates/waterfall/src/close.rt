@@ -1,28 +1,29 @@
 // "A close starts the caps afresh."
 ghost use Rattle.std.specs.Prelude.{◌≡◌};
-ghost use Rattle.waterfall.specs.Register.{GivenBack};
-ghost use Rattle.waterfall.specs.Calls.{close_refusal, close_of};
+ghost use Rattle.refusal.specs.Refusal.{answered};
+ghost use Rattle.waterfall.specs.Calls.{closed_of, close_refusal, close_of};
 ghost use Rattle.waterfall.specs.Reply.{Says, nothing};
 
-use crate::{Outcome, Register, Reply};
+use crate::{Outcome, Register};
 use admission::owing;
+use refusal::Refusal;
 
-pub fn close(register: Register) -> Outcome
-    requires { GivenBack register }
-    ensures value { result ≡ close_of register }
-    ensures given_back { GivenBack result.register }
-    ensures says { Says result.reply (close_refusal register) nothing }
-{
-    if owing(&register.outstanding) {
-        return Outcome {
-            reply: Reply::Refused(18),
-            register,
-        };
+impl Register {
+    // The register once it is closed.
+    fn closed(mut self) -> Result<Register, Refusal>
+        ensures { result ≡ answered (close_refusal self) (closed_of self) }
+    {
+        if owing(&self.outstanding) {
+            return Err(Refusal::CallOutstanding);
+        }
+        self.called = [0; 64];
+        Ok(self)
     }
-    let mut next = register;
-    next.called = [0u32; 64];
-    Outcome {
-        reply: Reply::Accepted,
-        register: next,
+
+    pub fn close(self) -> Outcome
+        ensures value { result ≡ close_of self }
+        ensures says { Says result.reply (close_refusal self) nothing }
+    {
+        self.or_next(self.closed())
     }
 }

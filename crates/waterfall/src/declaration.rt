@@ -1,68 +1,87 @@
 // Document 01, "Declaring a default", and document 02, request 3: with its pools.
 ghost use Rattle.std.specs.Prelude.{◌≡◌};
-ghost use Rattle.waterfall.specs.Register.{GivenBack};
 ghost use Rattle.waterfall.specs.Reply.{Says};
 ghost use Rattle.waterfall.specs.Pools.{pooled_allocation, pooled_refusal, pooled_of, pooled_slip};
+ghost use Rattle.waterfall.specs.Parts.{PlacedOr, Settles, settled_as, allocation_in};
 
-use crate::{Allocation, Outcome, Register, Reply};
-use admission::{Pools, default_refusal};
+use crate::{Allocation, Outcome, Register};
+use admission::{Pools, default_admission};
 use figures::{add_to, defaulted, lower, take_from};
-use layers::{allocate, tell};
+use layers::{Figures, Placed, allocate, tell};
+use refusal::Refusal;
 
-pub fn declare(
-    mut register: Register,
-    member: u64,
-    pools: Pools,
-    ranks: &[u8],
-    slip: &mut [u64],
-) -> Outcome
-    requires { GivenBack register }
-    ensures value { result ≡ pooled_of register member pools ranks.now slip.old }
-    ensures slip_after { slip.new ≡ pooled_slip register member pools ranks.now slip.old }
-    ensures given_back { GivenBack result.register }
-    ensures says { Says result.reply (pooled_refusal register member pools ranks.now slip.old) (pooled_allocation register member pools ranks.now) }
-{
-    let status = register.status;
-    let number = default_refusal(status, member, pools, ranks, slip.len());
-    if 0 < number {
-        return Outcome {
-            reply: Reply::Refused(number),
-            register,
+impl Register {
+    // The six layers of a default that nothing refuses. They change nothing yet.
+    fn placed(
+        &self,
+        member: u64,
+        pools: Pools,
+        ranks: &[u8],
+        slip: &[u64],
+    ) -> Result<Placed, Refusal>
+        ensures { PlacedOr self.now member pools ranks.now slip.now result }
+    {
+        default_admission(self.status, member, pools, ranks, slip.len())?;
+        let figures = Figures {
+            status: &self.status,
+            margin: &self.margin,
+            contribution: &self.contribution,
+            outstanding: &self.outstanding,
+            cap: &self.cap,
+            called: &self.called,
+            tranche1: self.tranche1,
+            tranche2: self.tranche2,
         };
+        let placed = allocate(figures, member, pools, ranks);
+        if placed.over {
+            return Err(Refusal::Overdrawn);
+        }
+        Ok(placed)
     }
-    // The six layers change nothing yet: 19 may still refuse the default.
-    let placed = allocate(
-        status,
-        &register.margin,
-        &register.contribution,
-        &register.outstanding,
-        &register.cap,
-        &register.called,
-        register.tranche1,
-        register.tranche2,
-        member,
-        pools,
-        ranks,
-    );
-    if placed.over {
-        return Outcome {
-            reply: Reply::Refused(19),
-            register,
-        };
-    }
+
     // "Each charge leaves its pocket", and the defaulter is in default for good.
-    tell(placed, slip);
-    register.status = defaulted(status, member);
-    lower(&mut register.margin, member, placed.margin);
-    lower(&mut register.contribution, member, placed.contribution);
-    lower(&mut register.outstanding, member, placed.fallen);
-    register.tranche1 -= placed.tranche1;
-    register.tranche2 -= placed.tranche2;
-    take_from(&mut register.contribution, &placed.charges);
-    add_to(&mut register.outstanding, &placed.called, placed.calls);
-    add_to(&mut register.called, &placed.called, placed.calls);
-    Outcome {
-        reply: Reply::Allocated(Allocation {
+    fn settled(mut self, member: u64, placed: &Placed) -> Register
+        requires { Settles self member placed.now }
+        ensures { result ≡ settled_as self member placed.now }
+    {
+        self.status = defaulted(self.status, member);
+        lower(&mut self.margin, member, placed.margin);
+        lower(&mut self.contribution, member, placed.contribution);
+        lower(&mut self.outstanding, member, placed.fallen);
+        self.tranche1 -= placed.tranche1;
+        self.tranche2 -= placed.tranche2;
+        take_from(&mut self.contribution, &placed.charges);
+        add_to(&mut self.outstanding, &placed.called, placed.calls);
+        add_to(&mut self.called, &placed.called, placed.calls);
+        self
+    }
+
+    pub fn declare(self, member: u64, pools: Pools, ranks: &[u8], slip: &mut [u64]) -> Outcome
+        ensures value { result ≡ pooled_of self member pools ranks.now slip.old }
+        ensures slip_after { slip.new ≡ pooled_slip self member pools ranks.now slip.old }
+        ensures says { Says result.reply (pooled_refusal self member pools ranks.now slip.old) (pooled_allocation self member pools ranks.now) }
+    {
+        match self.placed(member, pools, ranks, slip) {
+            Ok(placed) => {
+                tell(placed, slip);
+                Outcome {
+                    reply: Ok(Some(Allocation::from(&placed))),
+                    register: self.settled(member, &placed),
+                }
+            }
+            Err(refusal) => Outcome {
+                reply: Err(refusal),
+                register: self,
+            },
+        }
+    }
+}
+
+impl From<&Placed> for Allocation {
+    ghost from_gives = { λ placed allocation. allocation ≡ allocation_in placed.now };
+
+    fn from(placed: &Placed) -> Allocation {
+        Allocation {
             fallen: placed.fallen,
             margin: placed.margin,
             contribution: placed.contribution,
@@ -71,7 +90,6 @@ pub fn declare(
             tranche2: placed.tranche2,
             calls: placed.calls,
             short: placed.short,
-        }),
-        register,
+        }
     }
 }

@@ -8,13 +8,17 @@ pub mod payment;
 pub mod replenishment;
 pub mod view;
 
-use sheets::Refusal;
+ghost use Rattle.std.specs.Prelude.{◌≡◌};
+ghost use Rattle.waterfall.specs.Parts.{handed_back};
 
-// The register. Its fields are private: hosts can make none. A member's figures stand at its number less 1.
-#[derive(Clone, Copy)]
+use figures::Status;
+use refusal::Refusal;
+use std::marker::Model;
+
+/// The register. Its fields are private: hosts can make none. A member's figures stand at its number less 1.
+#[derive(Clone, Copy, PartialEq, Eq)]
 pub struct Register {
-    // figures::ABSENT, LIVE or IN_DEFAULT
-    status: [u8; 64],
+    status: [Status; 64],
     margin: [u32; 64],
     contribution: [u32; 64],
     requirement: [u32; 64],
@@ -27,15 +31,29 @@ pub struct Register {
     tranche2: u64,
 }
 
-// What an opening hands back.
-#[derive(Clone, Copy)]
+impl Model for Register {
+    ghost use Rattle.waterfall.specs.Register.{Register};
+
+    ghost Value = { Register };
+
+    ghost use Rattle.waterfall.specs.Inside.{seen, held, Given};
+
+    ghost view = { seen };
+
+    ghost invariant = { Given };
+
+    ghost inverse = { held };
+}
+
+/// What an opening hands back.
+#[derive(Clone, Copy, PartialEq, Eq)]
 pub struct Opened {
-    pub refusal: Refusal,
+    pub refusal: Option<Refusal>,
     pub register: Register,
 }
 
-// What an accepted default answers: the fallen (lapsed) call, the six layers and the shortfall.
-#[derive(Clone, Copy)]
+/// What an accepted default answers: the fallen (lapsed) call, the six layers and the shortfall.
+#[derive(Clone, Copy, Debug, PartialEq, Eq)]
 pub struct Allocation {
     pub fallen: u64,
     pub margin: u64,
@@ -47,17 +65,30 @@ pub struct Allocation {
     pub short: u64,
 }
 
-// What a drill call answers.
-#[derive(Clone, Copy)]
-pub enum Reply {
-    Refused(u8),
-    Accepted,
-    Allocated(Allocation),
-}
+/// What a drill call answers: its refusal, or that it is accepted; an accepted default answers its allocation.
+pub type Reply = Result<Option<Allocation>, Refusal>;
 
-// What a drill call hands back.
-#[derive(Clone, Copy)]
+/// What a drill call hands back.
+#[derive(Clone, Copy, PartialEq, Eq)]
 pub struct Outcome {
     pub reply: Reply,
     pub register: Register,
+}
+
+impl Register {
+    // A call that allocates nothing: where it is accepted, it hands back the next register.
+    fn or_next(self, next: Result<Register, Refusal>) -> Outcome
+        ensures { result ≡ handed_back self next }
+    {
+        match next {
+            Ok(register) => Outcome {
+                reply: Ok(None),
+                register,
+            },
+            Err(refusal) => Outcome {
+                reply: Err(refusal),
+                register: self,
+            },
+        }
+    }
 }

@@ -1,15 +1,15 @@
 // Document 01, "The opening register": a register opened from its sheet and our own contribution G.
 ghost use Rattle.std.specs.Prelude.{◌≡◌, ◌≤◌};
 ghost use Rattle.lists.specs.Limits.{sum_limit};
-ghost use Rattle.sheets.specs.Sheet.{refusal};
-ghost use Rattle.waterfall.specs.Register.{GivenBack, empty_register};
-ghost use Rattle.waterfall.specs.Opening.{entered_of, opened_of};
+ghost use Rattle.refusal.specs.Refusal.{answered};
+ghost use Rattle.waterfall.specs.Opening.{entered_of, opening_register, opening_refusal, opened_of};
 
 use crate::{Opened, Register};
 use figures::statuses;
 use lists::{CONTRIBUTION_FLOOR, MEMBER_LIMIT, SUM_LIMIT};
+use refusal::Refusal;
 use sheets::columns::{Columns, no_columns, read};
-use sheets::{Refusal, missized};
+use sheets::missized;
 
 // The register with the members of the sheet.
 fn entered(columns: Columns, own: u64) -> Register
@@ -27,41 +27,40 @@ fn entered(columns: Columns, own: u64) -> Register
         contribution,
         requirement: contribution,
         cap,
-        outstanding: [0u32; 64],
-        called: [0u32; 64],
+        outstanding: [0; 64],
+        called: [0; 64],
         tranche1,
         tranche2: own - tranche1,
     }
 }
 
-// A refused opening: the register of a sheet of no records and of nothing of our own has no members, and both its tranches are 0.
-fn refused(number: u8, position: usize) -> Opened
-    ensures { (result.refusal ≡ refusal number position) × (result.register ≡ empty_register) }
-{
-    Opened {
-        refusal: Refusal { number, position },
-        register: entered(no_columns(), 0),
-    }
-}
-
-pub fn open(sheet: &[u8], own: u64) -> Opened
-    ensures value { result ≡ opened_of sheet.now own }
-    ensures given_back { GivenBack result.register }
+// The register of an opening that nothing refuses.
+#[tactic(auto, unfolding(lists::specs::Checks::check, crate::specs::Opening::opening_refusal, crate::specs::Opening::opening_register))]
+fn unrefused(sheet: &[u8], own: u64) -> Result<Register, Refusal>
+    ensures { result ≡ answered (opening_refusal sheet.now own) (opening_register sheet.now own) }
 {
     if missized(MEMBER_LIMIT, sheet) {
-        return refused(1, 0);
+        return Err(Refusal::Missized);
     }
     if SUM_LIMIT < own {
-        return refused(2, 0);
+        return Err(Refusal::ExcessiveSum);
     }
-    let reading = read(CONTRIBUTION_FLOOR, sheet);
-    let found = reading.refusal;
-    if 0 < found.number {
-        return refused(found.number, found.position);
-    }
-    let columns = reading.columns;
-    Opened {
-        refusal: found,
-        register: entered(columns, own),
+    let columns = read(CONTRIBUTION_FLOOR, sheet)?;
+    Ok(entered(columns, own))
+}
+
+// After a refusal the register is that of a sheet of no records and of nothing of our own: it has no members, and both its tranches are 0.
+pub fn open(sheet: &[u8], own: u64) -> Opened
+    ensures { result ≡ opened_of sheet.now own }
+{
+    match unrefused(sheet, own) {
+        Ok(register) => Opened {
+            refusal: None,
+            register,
+        },
+        Err(refusal) => Opened {
+            refusal: Some(refusal),
+            register: entered(no_columns(), 0),
+        },
     }
 }

@@ -1,41 +1,29 @@
 // "A payment lowers the outstanding call; it does not reopen the cap."
-ghost use Rattle.std.specs.Prelude.{◌≡◌, ◌≤◌, ◌<◌, length};
-ghost use Rattle.lists.specs.Limits.{member_limit, amount_limit};
-ghost use Rattle.waterfall.specs.Register.{GivenBack};
-ghost use Rattle.waterfall.specs.Calls.{payment_refusal, payment_of};
+ghost use Rattle.std.specs.Prelude.{◌≡◌};
+ghost use Rattle.refusal.specs.Refusal.{answered};
+ghost use Rattle.waterfall.specs.Calls.{paid_of, payment_refusal, payment_of};
 ghost use Rattle.waterfall.specs.Reply.{Says, nothing};
-ghost use Rattle.waterfall.specs.Parts.{Owes};
 
-use crate::{Outcome, Register, Reply};
-use admission::amount_refusal;
+use crate::{Outcome, Register};
+use admission::amount_admission;
 use figures::{figure_of, replace};
+use refusal::Refusal;
 
-// The register in which a member has `left` outstanding. What was called since the last close stands.
-fn owing(mut register: Register, member: u64, left: u64) -> Register
-    requires { (length register.outstanding ≡ member_limit) × ((0 < member) × (member ≤ member_limit)) × (left ≤ amount_limit) }
-    ensures { Owes register member left result }
-{
-    replace(&mut register.outstanding, member, left);
-    register
-}
-
-pub fn pay(register: Register, member: u64, amount: u64) -> Outcome
-    requires { GivenBack register }
-    ensures value { result ≡ payment_of register member amount }
-    ensures given_back { GivenBack result.register }
-    ensures says { Says result.reply (payment_refusal register member amount) nothing }
-{
-    let due = figure_of(&register.outstanding, member);
-    let number = amount_refusal(&register.status, member, amount, due, 16);
-    if 0 < number {
-        return Outcome {
-            reply: Reply::Refused(number),
-            register,
-        };
+impl Register {
+    // The register once it is paid. What was called since the last close stands.
+    fn paid(mut self, member: u64, amount: u64) -> Result<Register, Refusal>
+        ensures { result ≡ answered (payment_refusal self member amount) (paid_of self member amount) }
+    {
+        let due = figure_of(&self.outstanding, member);
+        amount_admission(&self.status, member, amount, due, Refusal::UnfitPayment)?;
+        replace(&mut self.outstanding, member, due - amount);
+        Ok(self)
     }
-    let next = owing(register, member, due - amount);
-    Outcome {
-        reply: Reply::Accepted,
-        register: next,
+
+    pub fn pay(self, member: u64, amount: u64) -> Outcome
+        ensures value { result ≡ payment_of self member amount }
+        ensures says { Says result.reply (payment_refusal self member amount) nothing }
+    {
+        self.or_next(self.paid(member, amount))
     }
 }

@@ -1,32 +1,36 @@
 // "A replenishment raises the contribution, never above the requirement."
 ghost use Rattle.std.specs.Prelude.{◌≡◌};
-ghost use Rattle.waterfall.specs.Register.{GivenBack};
-ghost use Rattle.waterfall.specs.Calls.{replenishment_refusal, replenishment_of};
+ghost use Rattle.refusal.specs.Refusal.{answered};
+ghost use Rattle.waterfall.specs.Calls.{replenished_of, replenishment_refusal, replenishment_of};
 ghost use Rattle.waterfall.specs.Reply.{Says, nothing};
 
-use crate::{Outcome, Register, Reply};
-use admission::amount_refusal;
+use crate::{Outcome, Register};
+use admission::amount_admission;
 use figures::{figure_of, replace};
+use refusal::Refusal;
 
-pub fn replenish(register: Register, member: u64, amount: u64) -> Outcome
-    requires { GivenBack register }
-    ensures value { result ≡ replenishment_of register member amount }
-    ensures given_back { GivenBack result.register }
-    ensures says { Says result.reply (replenishment_refusal register member amount) nothing }
-{
-    let standing = figure_of(&register.contribution, member);
-    let room = figure_of(&register.requirement, member) - standing;
-    let number = amount_refusal(&register.status, member, amount, room, 17);
-    if 0 < number {
-        return Outcome {
-            reply: Reply::Refused(number),
-            register,
-        };
+impl Register {
+    // The register once it is replenished.
+    fn replenished(mut self, member: u64, amount: u64) -> Result<Register, Refusal>
+        ensures { result ≡ answered (replenishment_refusal self member amount) (replenished_of self member amount) }
+    {
+        let standing = figure_of(&self.contribution, member);
+        let room = figure_of(&self.requirement, member) - standing;
+        amount_admission(
+            &self.status,
+            member,
+            amount,
+            room,
+            Refusal::UnfitReplenishment,
+        )?;
+        replace(&mut self.contribution, member, standing + amount);
+        Ok(self)
     }
-    let mut next = register;
-    replace(&mut next.contribution, member, standing + amount);
-    Outcome {
-        reply: Reply::Accepted,
-        register: next,
+
+    pub fn replenish(self, member: u64, amount: u64) -> Outcome
+        ensures value { result ≡ replenishment_of self member amount }
+        ensures says { Says result.reply (replenishment_refusal self member amount) nothing }
+    {
+        self.or_next(self.replenished(member, amount))
     }
 }

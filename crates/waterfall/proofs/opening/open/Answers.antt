@@ -1,41 +1,30 @@
 -- `waterfall::opening::open` meets its contract.
-use mathlib.Core.Path.{◌≡◌, refl, ap, sym, ◌∙◌}
-use native.Mathlib.Omega.{arith}
-use Rattle.lists.proofs.Checks.{check_yes, check_no, check-lt}
-use Rattle.sheets.specs.declared.columns.Columns.{Columns}
-use Rattle.waterfall.specs.Opening.{entered_of, opening_register, opening_refusal}
-use Rattle.waterfall.proofs.Entered.{opened-refused, opened-accepted, by-records}
-use Rattle.waterfall.proofs.opening.open.Goals.{After-read-reading}
+use mathlib.Core.Path.{◌≡◌}
+use Rattle.std.specs.Prelude.{Option, Some, None, Ok, Err, is_some}
+use Rattle.lists.specs.Checks.{check}
+use Rattle.refusal.specs.Refusal.{answered}
+use Rattle.refusal.specs.declared.Refusal.{Refusal}
+use Rattle.waterfall.specs.Register.{Register, empty_register}
+use Rattle.waterfall.specs.declared.Opened.{Opened}
 use Rattle.waterfall.proofs.opening.open.Goals as goal
 
--- past 1 and 2 the records decide
-module _ (c : After-read-reading) where
-  found : c.read-reading.result.refusal ≡ opening_refusal c.args.sheet.now c.args.own
-  found =
-      c.read-reading.ensures.refused
-      ∙ by-records _ _ (sym c.missized.ensures ∙ c.if-missized.false) c.if-own-gt-SUM_LIMIT.false
+-- an opening by what the sheet and our own contribution answer
+module _ (refusal : Option Refusal) (opened : Register) where
+  abbrev Opening : Opened → Type 0
+  Opening o = o ≡ record { refusal = refusal; register = check (is_some refusal) empty_register opened }
 
-pub returns-then-missized : goal.returns-then-missized
-unfolding opening_refusal
-returns-then-missized c =
-    let parts = opened-refused _ _ 1 0 c.refused.ensures (check_yes _ _ _ _ c.missized.ensures c.if-missized.true refl) (omega arith) in record { value = parts.0; given_back = parts.1 }
+accepts : (refusal : Option Refusal) (opened register : Register) → Ok register ≡ answered refusal opened → Opening refusal opened (record { refusal = None; register = register })
+unfolding check
+accepts (Some f) opened register e = absurd (cc)
+accepts None opened register e = cc
 
-pub returns-then-own-gt-SUM_LIMIT : goal.returns-then-own-gt-SUM_LIMIT
-unfolding opening_refusal
-returns-then-own-gt-SUM_LIMIT c =
-    let parts = opened-refused _ _ 2 0 c.refused-then-own-gt-SUM_LIMIT.ensures
-    (check_no _ _ _ _ c.missized.ensures c.if-missized.false
-    (check-lt _ _ _ _ c.if-own-gt-SUM_LIMIT.true
-    refl))
-    (omega arith) in record { value = parts.0; given_back = parts.1 }
+refuses : (refusal : Option Refusal) (opened : Register) (found : Refusal) → Err found ≡ answered refusal opened → Opening refusal opened (record { refusal = Some found; register = empty_register })
+unfolding check
+refuses (Some f) opened found e = cc
+refuses None opened found e = absurd (cc)
 
-pub returns-then-found-gt0 : goal.returns-then-found-gt0
-returns-then-found-gt0 c =
-    let parts = opened-refused _ _ _ _ c.refused-then-found-gt0.ensures (found (goal.at.returns-then-found-gt0 c).After-read-reading) c.if-found-gt0.true in record { value = parts.0; given_back = parts.1 }
+pub returns-in-Ok : goal.returns-in-Ok
+returns-in-Ok c = accepts _ _ _ c.in-Ok.ensures
 
-pub returns : goal.returns
-unfolding opening_register
-returns c =
-    let z : c.read-reading.result.refusal.number ≡ 0 = omega arith in
-    let parts = opened-accepted _ _ (found (goal.at.returns c).After-read-reading) (omega arith)
-    (c.entered.ensures ∙ ap (λ (columns : Columns). entered_of columns c.args.own) (c.read-reading.ensures.columns_are z)) in record { value = parts.0; given_back = parts.1 }
+pub returns-in-Err : goal.returns-in-Err
+returns-in-Err c = rw (c.entered.ensures, c.no_columns.ensures) (refuses _ _ _ c.in-Err.ensures)

@@ -1,19 +1,18 @@
 -- The laws of a single step, for each call on a register that was given back.
-use Prim.Native.Nat.{ℕ, ◌+◌, ◌≤◌, ◌<◌}
+use Prim.Native.Nat.{ℕ, ◌+◌, ◌≤◌}
 use mathlib.Core.Path.{◌≡◌, refl, ap, sym, ◌∙◌}
-use mathlib.Core.Bool.{Bool, true, false, cond, not, false≢true}
+use mathlib.Core.Bool.{Bool, true, false, cond, false≢true}
 use mathlib.Core.List.{List}
 use native.Mathlib.Omega.{arith}
-use borrow.Author.Tests.{lt-ltb, ltb-true, ltb-false}
-use Rattle.lists.specs.Checks.{refuses}
-use Rattle.lists.proofs.Checks.{check_by, check_past, no-refusal}
-use Rattle.figures.specs.Figures.{figure}
-use Rattle.waterfall.specs.Register.{GivenBack}
+use borrow.Author.Tests.{ltb-false}
+use Rattle.std.specs.Prelude.{Option, Some, None, Ok, Err}
+use Rattle.lists.proofs.Checks.{check_past}
+use Rattle.refusal.specs.declared.Refusal.{Refusal}
+use Rattle.figures.specs.Figures.{figure, status_at}
+use Rattle.figures.specs.declared.Status.{Status}
+use Rattle.waterfall.specs.Register.{Register, GivenBack}
 use Rattle.waterfall.specs.Reply.{judged}
 use Rattle.waterfall.specs.Calls.{paid_of, payment_refusal, payment_of, replenished_of, replenishment_refusal, replenishment_of, closed_of, close_refusal, close_of}
-use Rattle.waterfall.specs.declared.Register.{Register}
-use Rattle.waterfall.specs.declared.Reply.{Reply}
-use Rattle.waterfall.specs.declared.Reply.TheVariants.{Refused, Accepted}
 use Rattle.waterfall.specs.declared.Outcome.{Outcome}
 use Rattle.figures.proofs.Figures.{replaced, figure-none}
 use Rattle.waterfall.proofs.Answer.{fit, within_bound}
@@ -38,30 +37,30 @@ module _ (r : Register) (g : GivenBack r) (call : DrillCall) (ranks slip : List 
   Lawful o = StepLaws r (seen call ranks o slip)
 
   -- a refused call counts for nothing
-  pub refused_laws : (n : ℕ) → 0 < n → Lawful (record { reply = Refused n; register = r })
-  refused_laws n h =
-      let no : not (refuses n) ≡ false = ap not (lt-ltb 0 n h) in
+  pub refused_laws : (refusal : Refusal) → Lawful (record { reply = Err refusal; register = r })
+  refused_laws refusal =
       record {
         given = g;
         cap_stays = refl;
-        placed = rw no;
+        placed = refl;
         margin = λ m. omega (arith, cond-none (defaults call m));
-        contribution = λ m. rw no (omega (arith, cond-none (defaults call m)));
+        contribution = λ m. omega (arith, cond-none (defaults call m));
         tranche1 = omega arith;
         tranche2 = omega arith;
-        calls = λ m. rw no (omega (arith, cond-none (defaults call m)));
-        called = λ m. rw no (omega arith);
+        calls = λ m. omega (arith, cond-none (defaults call m));
+        called = λ m. omega arith;
         stays-live = λ m s q. s;
         stays_in-default = λ m s. s;
-        in-default = λ m loss q t. absurd (false≢true (sym no ∙ t));
-        ranked = λ m loss q t. absurd (false≢true (sym no ∙ t));
-        ordered = λ m loss q t. absurd (false≢true (sym no ∙ t));
+        in-default = λ m pools q t. absurd (false≢true t);
+        ranked = λ m pools q t. absurd (false≢true t);
+        ordered = λ m pools q t. absurd (false≢true t);
       }
 
-  -- a call that is judged by `number`
-  judged_laws : (number : ℕ) (reply : Reply) (next : Register) → (number ≡ 0 → Lawful (record { reply = reply; register = next })) → Lawful (judged number r reply next)
+  -- a call that is judged, and allocates nothing
+  judged_laws : (refusal : Option Refusal) (next : Register) → (refusal ≡ None → Lawful (record { reply = Ok None; register = next })) → Lawful (judged refusal r None next)
   unfolding judged
-  judged_laws number reply next past = check_by Lawful _ _ _ (λ e. refused_laws number (ltb-true 0 number e)) (λ e. past (no-refusal number e))
+  judged_laws (Some refusal) next past = refused_laws refusal
+  judged_laws None next past = past refl
 
   -- an accepted call that is no default: it hands over no loss, and only contributions, what is outstanding and what was called may change
   accepted_laws : (next : Register) → GivenBack next → loss_handed call ≡ 0 → is_default call ≡ false
@@ -69,7 +68,7 @@ module _ (r : Register) (g : GivenBack r) (call : DrillCall) (ranks slip : List 
       → ((m : ℕ) → figure r.contribution m + replenished_in call m ≡ figure next.contribution m)
       → ((m : ℕ) → figure r.outstanding m ≡ paid_in call m + figure next.outstanding m)
       → ((m : ℕ) → figure next.called m ≡ cond (is_close call) 0 (figure r.called m))
-      → Lawful (record { reply = Accepted; register = next })
+      → Lawful (record { reply = Ok None; register = next })
   accepted_laws next given loss other stays contribution outstanding called =
       record {
         given = given;
@@ -83,8 +82,8 @@ module _ (r : Register) (g : GivenBack r) (call : DrillCall) (ranks slip : List 
         called = λ m.
             let same : figure r.called m + 0 ≡ figure r.called m = omega arith in
             rw (other, same) (called m);
-        stays-live = λ m s q. ap (λ (xs : List ℕ). figure xs m) stays.0 ∙ s;
-        stays_in-default = λ m s. ap (λ (xs : List ℕ). figure xs m) stays.0 ∙ s;
+        stays-live = λ m s q. ap (λ (xs : List Status). status_at xs m) stays.0 ∙ s;
+        stays_in-default = λ m s. ap (λ (xs : List Status). status_at xs m) stays.0 ∙ s;
         in-default = λ m l q t. absurd (false≢true (sym other ∙ ap is_default q));
         ranked = λ m l q t. absurd (false≢true (sym other ∙ ap is_default q));
         ordered = λ m l q t. absurd (false≢true (sym other ∙ ap is_default q));
@@ -93,8 +92,8 @@ module _ (r : Register) (g : GivenBack r) (call : DrillCall) (ranks slip : List 
 pub payment_laws : (r : Register) → GivenBack r → (who amount : ℕ) (ranks slip : List ℕ) → StepLaws r (seen (Payment who amount) ranks (payment_of r who amount) slip)
 unfolding payment_of payment_refusal paid_of
 payment_laws r g who amount ranks slip =
-    judged_laws r g (Payment who amount) ranks slip (payment_refusal r who amount) Accepted (paid_of r who amount) (λ e.
-    let k = fit r who 16 _ g (omega arith) e in
+    judged_laws r g (Payment who amount) ranks slip (payment_refusal r who amount) (paid_of r who amount) (λ e.
+    let k = fit r who Refusal.UnfitPayment _ g e in
     let h : amount ≤ figure r.outstanding who = within_bound amount _ _ k.fits in
     accepted_laws r g (Payment who amount) ranks slip (paid_of r who amount) (given-paid r g who amount) refl refl (refl, refl, refl, refl, refl)
     (λ m. omega arith)
@@ -104,8 +103,8 @@ payment_laws r g who amount ranks slip =
 pub replenishment_laws : (r : Register) → GivenBack r → (who amount : ℕ) (ranks slip : List ℕ) → StepLaws r (seen (Replenishment who amount) ranks (replenishment_of r who amount) slip)
 unfolding replenishment_of replenishment_refusal replenished_of
 replenishment_laws r g who amount ranks slip =
-    judged_laws r g (Replenishment who amount) ranks slip (replenishment_refusal r who amount) Accepted (replenished_of r who amount) (λ e.
-    let k = fit r who 17 _ g (omega arith) e in
+    judged_laws r g (Replenishment who amount) ranks slip (replenishment_refusal r who amount) (replenished_of r who amount) (λ e.
+    let k = fit r who Refusal.UnfitReplenishment _ g e in
     accepted_laws r g (Replenishment who amount) ranks slip (replenished_of r who amount)
     (given-replenished r g who amount (within_bound amount _ _ k.fits)) refl refl (refl, refl, refl, refl, refl)
     (λ m. replaced (λ b old new. old + cond b amount 0 ≡ new) r.contribution who m _ k.least (omega (arith, k, g.contribution_length)) refl (λ y. omega arith))
@@ -115,6 +114,6 @@ replenishment_laws r g who amount ranks slip =
 pub close_laws : (r : Register) → GivenBack r → (ranks slip : List ℕ) → StepLaws r (seen Close ranks (close_of r) slip)
 unfolding close_of close_refusal closed_of
 close_laws r g ranks slip =
-    judged_laws r g Close ranks slip (close_refusal r) Accepted (closed_of r) (λ e.
-    accepted_laws r g Close ranks slip (closed_of r) (given-closed r g (ltb-false _ _ (check_past _ 18 0 (λ q. omega arith) e).0)) refl refl (refl, refl, refl, refl, refl)
+    judged_laws r g Close ranks slip (close_refusal r) (closed_of r) (λ e.
+    accepted_laws r g Close ranks slip (closed_of r) (given-closed r g (ltb-false _ _ (check_past _ _ _ (λ q. cc) e).0)) refl refl (refl, refl, refl, refl, refl)
     (λ m. omega arith) (λ m. omega arith) figure-none)

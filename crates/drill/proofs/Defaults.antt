@@ -1,27 +1,26 @@
 -- The laws of a single step, for a default on a register that was given back.
 use Prim.Native.Nat.{ℕ, ◌+◌, ◌<◌}
 use mathlib.Core.Path.{◌≡◌, refl, ap, sym, ◌∙◌}
-use mathlib.Core.Bool.{Bool, true, false, cond}
+use mathlib.Core.Bool.{cond}
 use mathlib.Core.List.{List, ◌++◌, append_assoc}
 use native.Mathlib.Omega.{arith}
-use borrow.Author.Tests.{ltb-true, eqb-false}
-use lib.Dec.{ltb}
+use borrow.Author.Tests.{eqb-false}
 use lib.ListN.{length, take, drop}
 use lib.Seq.{take_at, drop_at}
+use Rattle.std.specs.Prelude.{Option, Some, None, Ok, is_some}
 use Rattle.lists.specs.Checks.{check}
 use Rattle.lists.specs.Limits.{member_limit}
-use Rattle.lists.proofs.Checks.{no-refusal}
+use Rattle.refusal.specs.declared.Refusal.{Refusal}
 use Rattle.admission.specs.declared.Pools.{Pools}
-use Rattle.figures.specs.Figures.{in_default, figure, replace}
-use Rattle.waterfall.specs.Register.{GivenBack}
+use Rattle.figures.specs.Figures.{figure, replace}
+use Rattle.figures.specs.declared.Status.{Status}
+use Rattle.waterfall.specs.Register.{Register, GivenBack}
 use Rattle.waterfall.specs.Reply.{judged}
 use Rattle.waterfall.specs.Default.{fallen_call, on_margin, on_contribution, calls, after1, after2, after3, after4, after5, allocation_of, settled_of, slip_of}
 use Rattle.waterfall.specs.Pools.{loss_together, pooled_charges, pooled_allocation, pooled_refusal, pooled_of, pooled_slip}
-use Rattle.waterfall.specs.declared.Register.{Register}
-use Rattle.waterfall.specs.declared.Reply.TheVariants.{Refused, Allocated}
 use Rattle.admission.proofs.Admitted.{PoolsAdmitted, pools_admitted}
 use Rattle.waterfall.proofs.Default.{Layer4, placed, margin-gives, contribution-gives, tranche1-gives, tranche2-gives, charges-within, left2, left3, left4, left5, left6}
-use Rattle.figures.proofs.Figures.{figure_same, figure_other, replaced, figure-plus, figure-le, by-member}
+use Rattle.figures.proofs.Figures.{same_member, other_member, replaced_at, figure_same, figure_other, replaced, figure-plus, figure-le, by-member}
 use Rattle.waterfall.proofs.Given.{given-settled, length-calls}
 use Rattle.drill.proofs.Order.{layer4, defaulter_known, settled-contribution, settled_other, defaulter_uncharged, empty1, empty2, empty3, empty4, empty5, empty6, ranked_other, by_rank_in_pool, by_rank}
 use Rattle.drill.specs.Drill.{Event}
@@ -63,7 +62,7 @@ module _ (r : Register) (g : GivenBack r) (member : ℕ) (pools : Pools) (ranks 
       ∙ take_at calling _ member_limit (length-calls r g member loss (pooled_charges r member pools ranks))
 
   event : Event
-  event = seen (Default member pools) ranks (record { reply = Allocated (pooled_allocation r member pools ranks); register = settled_of r member loss (pooled_charges r member pools ranks) }) left
+  event = seen (Default member pools) ranks (record { reply = Ok (Some (pooled_allocation r member pools ranks)); register = settled_of r member loss (pooled_charges r member pools ranks) }) left
 
   -- where something is left after a layer, something was left before it, and the layer is empty
   up2 : 0 < after2 r member loss → 0 < after1 r member loss
@@ -168,9 +167,9 @@ module _ (r : Register) (g : GivenBack r) (member : ℕ) (pools : Pools) (ranks 
               figure_other r.outstanding member m 0 k.0 d,
             ));
         called = λ m. omega (arith, call m, figure-plus r.called (calls r member loss (pooled_charges r member pools ranks)) m);
-        stays-live = λ m s q. figure_other r.status member m in_default k.0 (eqb-false member m q) ∙ s;
-        stays_in-default = λ m s. replaced (λ b old new. old ≡ in_default → new ≡ in_default) r.status member m in_default k.0 (omega (arith, k, g.status_length)) (λ _. refl) (λ y e. e) s;
-        in-default = λ m l q t. figure_same r.status member m in_default k.0 (omega (arith, k, g.status_length)) (sym (named q).0);
+        stays-live = λ m s q. other_member Status.Absent r.status member m Status.InDefault k.0 (eqb-false member m q) ∙ s;
+        stays_in-default = λ m s. replaced_at Status.Absent (λ b old new. old ≡ Status.InDefault → new ≡ Status.InDefault) r.status member m Status.InDefault k.0 (omega (arith, k, g.status_length)) (λ _. refl) (λ y e. e) s;
+        in-default = λ m l q t. same_member Status.Absent r.status member m Status.InDefault k.0 (omega (arith, k, g.status_length)) (sym (named q).0);
         ranked = λ m l q t. rw ((named q).0, (named q).1) (ranked_other r g member pools ranks slip a);
         ordered = λ m l q t. rw ((named q).0, (named q).1) allocated_ordered;
       }
@@ -178,22 +177,18 @@ module _ (r : Register) (g : GivenBack r) (member : ℕ) (pools : Pools) (ranks 
       named : {m : ℕ} {l : Pools} → Default member pools ≡ Default m l → (m ≡ member) × (l ≡ pools)
       named q = (cc, cc)
 
-admitted_by : (r : Register) (member : ℕ) (pools : Pools) (ranks slip : List ℕ) → pooled_refusal r member pools ranks slip ≡ 0 → PoolsAdmitted r.status member pools ranks (length slip)
+admitted_by : (r : Register) (member : ℕ) (pools : Pools) (ranks slip : List ℕ) → pooled_refusal r member pools ranks slip ≡ None → PoolsAdmitted r.status member pools ranks (length slip)
 unfolding pooled_refusal
 admitted_by r member pools ranks slip z = pools_admitted r.status member pools ranks (length slip) _ z
 
 pub default_laws : (r : Register) → GivenBack r → (member : ℕ) (pools : Pools) (ranks slip : List ℕ)
     → StepLaws r (seen (Default member pools) ranks (pooled_of r member pools ranks slip) (pooled_slip r member pools ranks slip))
 unfolding pooled_of pooled_slip judged check event left charged calling
-default_laws r g member pools ranks slip = go (ltb 0 (pooled_refusal r member pools ranks slip)) refl
+default_laws r g member pools ranks slip = go (pooled_refusal r member pools ranks slip) refl
   where
-    refusal : ℕ
-    refusal = pooled_refusal r member pools ranks slip
-
-    go : (t : Bool) → ltb 0 refusal ≡ t
+    go : (o : Option Refusal) → pooled_refusal r member pools ranks slip ≡ o
         → StepLaws r (seen (Default member pools) ranks
-        (check t (record { reply = Refused refusal; register = r })
-        (record { reply = Allocated (pooled_allocation r member pools ranks); register = settled_of r member (loss_together pools) (pooled_charges r member pools ranks) }))
-        (check t slip (slip_of r member (loss_together pools) (pooled_charges r member pools ranks) slip)))
-    go true e = refused_laws r g (Default member pools) ranks slip refusal (ltb-true 0 refusal e)
-    go false e = allocated_laws r g member pools ranks slip (admitted_by r member pools ranks slip (no-refusal refusal e))
+        (judged o r (Some (pooled_allocation r member pools ranks)) (settled_of r member (loss_together pools) (pooled_charges r member pools ranks)))
+        (check (is_some o) slip (slip_of r member (loss_together pools) (pooled_charges r member pools ranks) slip)))
+    go (Some refusal) e = refused_laws r g (Default member pools) ranks slip refusal
+    go None e = allocated_laws r g member pools ranks slip (admitted_by r member pools ranks slip e)

@@ -3,12 +3,12 @@ use Prim.Native.Nat.{ℕ, ◌+◌, ◌≤◌, ◌<◌}
 use mathlib.Core.Path.{◌≡◌}
 use mathlib.Core.Bool.{true, false, cond, ◌&&◌}
 use Rattle.lists.specs.Limits.{rank_limit}
-use Rattle.figures.specs.Figures.{live, in_default, figure}
+use Rattle.figures.specs.Figures.{figure, status_at}
+use Rattle.figures.specs.declared.Status.{Status}
 use Rattle.admission.specs.Admission.{pool_ranks}
 use Rattle.admission.specs.declared.Pools.{Pools}
-use Rattle.waterfall.specs.Register.{GivenBack}
+use Rattle.waterfall.specs.Register.{Register, GivenBack}
 use Rattle.waterfall.specs.Reply.{layer1, layer2, layer3, layer4, layer5, layer6}
-use Rattle.waterfall.specs.declared.Register.{Register}
 use Rattle.drill.specs.Drill.{Event}
 use Rattle.drill.specs.Counting.{accepted, defaults, is_close, loss_in, short_in, fallen_in, fallen_by, layer_in, layer_by, charge_on, call_on, paid_by, replenished_by}
 use Rattle.drill.specs.Statement.{InOrder}
@@ -17,7 +17,7 @@ use Rattle.drill.specs.declared.DrillCall.TheVariants.{Default}
 -- the order at an accepted default of `member`, by the marks of the register that it was made on and the calls that the one given back counts
 module _ (r : Register) (e : Event) (member : ℕ) (pools : Pools) where
   abbrev pub Other : ℕ → Type 0
-  Other n = (figure r.status n ≡ live) × (n ≡ member → ⊥)
+  Other n = (status_at r.status n ≡ Status.Live) × (n ≡ member → ⊥)
 
   abbrev pub Ordered : Type 0
   Ordered = InOrder Other (λ n. figure e.register.called n ≡ figure e.register.cap n) r e member pools
@@ -49,9 +49,9 @@ pub record StepLaws (r : Register) (e : Event) : Type 0 where
   pub tranche2 : r.tranche2 ≡ e.register.tranche2 + layer_in layer5 e
   pub calls : (m : ℕ) → call_on m e + figure r.outstanding m ≡ paid_by m e + figure e.register.outstanding m + fallen_by m e
   pub called : (m : ℕ) → figure e.register.called m ≡ cond (accepted e && is_close e.call) 0 (figure r.called m + call_on m e)
-  pub stays-live : (m : ℕ) → figure r.status m ≡ live → (accepted e && defaults e.call m) ≡ false → figure e.register.status m ≡ live
-  pub stays_in-default : (m : ℕ) → figure r.status m ≡ in_default → figure e.register.status m ≡ in_default
-  pub in-default : (m : ℕ) (pools : Pools) → e.call ≡ Default m pools → accepted e ≡ true → figure e.register.status m ≡ in_default
+  pub stays-live : (m : ℕ) → status_at r.status m ≡ Status.Live → (accepted e && defaults e.call m) ≡ false → status_at e.register.status m ≡ Status.Live
+  pub stays_in-default : (m : ℕ) → status_at r.status m ≡ Status.InDefault → status_at e.register.status m ≡ Status.InDefault
+  pub in-default : (m : ℕ) (pools : Pools) → e.call ≡ Default m pools → accepted e ≡ true → status_at e.register.status m ≡ Status.InDefault
   pub ranked : (m : ℕ) (pools : Pools) → e.call ≡ Default m pools → accepted e ≡ true → (p : ℕ) → p < pools.count → (n : ℕ) → Other r e m pools n
       → (0 < figure (pool_ranks e.ranks p) n) × (figure (pool_ranks e.ranks p) n ≤ rank_limit)
   pub ordered : (m : ℕ) (pools : Pools) → e.call ≡ Default m pools → accepted e ≡ true → Ordered r e m pools

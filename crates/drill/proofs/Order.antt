@@ -5,22 +5,20 @@ use mathlib.Core.Path.{◌≡◌, refl, ap, sym, ◌∙◌}
 use mathlib.Core.Bool.{true, false}
 use mathlib.Core.List.{List}
 use native.Mathlib.Omega.{arith}
-use lib.Dec.{eqb}
 use lib.ListN.{length, get_or}
 use lib.Seq.{take_all}
 use Rattle.lists.specs.Limits.{member_limit, rank_limit}
 use Rattle.lists.specs.Sums.{minus, keep}
-use Rattle.lists.proofs.Places.{get_or-map_any}
 use Rattle.lists.proofs.Sums.{kept, unkept, mark-within, get_or-minus}
 use Rattle.ranks.proofs.Laws.{juniors-first}
 use Rattle.pools.proofs.Laws.{in_juniors-first, get_or-portions}
-use Rattle.admission.specs.Admission.{pool_ranks}
+use Rattle.admission.specs.Admission.{loss_of, pool_ranks}
 use Rattle.admission.specs.declared.Pools.{Pools}
-use Rattle.figures.specs.Figures.{absent, live, in_default, figure, replace, others}
-use Rattle.waterfall.specs.Register.{GivenBack}
+use Rattle.figures.specs.Figures.{is_live, figure, status_at, replace, others}
+use Rattle.figures.specs.declared.Status.{Status}
+use Rattle.waterfall.specs.Register.{Register, GivenBack}
 use Rattle.waterfall.specs.Default.{standing_of, rooms_of, on_margin, after1, on_contribution, after2, after3, charges, after4, after5, calls, shortfall, settled_of}
 use Rattle.waterfall.specs.Pools.{loss_together, pool_sums, pool_portions, pool_charges, pooled_charges}
-use Rattle.waterfall.specs.declared.Register.{Register}
 use Rattle.admission.proofs.Admitted.{Admitted, PoolsAdmitted, admitted_one}
 use Rattle.admission.proofs.EachPool.{length_pool-ranks, pool_well-ranked}
 use Rattle.admission.proofs.Ranked.{ranks-read}
@@ -28,7 +26,7 @@ use Rattle.waterfall.proofs.Default.{Layer4, unmarked, emptied1, emptied2, empti
 use Rattle.waterfall.proofs.Given.{length-others}
 use Rattle.waterfall.proofs.OnePool.{same-charges}
 use Rattle.waterfall.proofs.Pooled.{pooled_layer4}
-use Rattle.figures.proofs.Figures.{figure-member, figure_same, figure_other, figure-plus, figure-minus}
+use Rattle.figures.proofs.Figures.{place_of, same_member, other_member, live_at, figure_same, figure_other, figure-plus, figure-minus}
 
 -- one pool: a charge by rank takes juniors first
 juniors_charged : (r : Register) (member loss : ℕ) (ranks : List ℕ) (i j : ℕ) → 0 < get_or (charges r member loss ranks) i 0 → get_or ranks i 0 < get_or ranks j 0 → get_or ranks j 0 ≤ rank_limit
@@ -52,19 +50,16 @@ module _ (r : Register) (g : GivenBack r) (member : ℕ) (pools : Pools) (ranks 
   -- the defaulter is a member
   pub defaulter_known : (0 < member) × (member ≤ member_limit)
   defaulter_known =
-      let f = figure-member r.status member (positive a.present) in (f.0, omega (arith, g.status_length))
-    where
-      positive : {n : ℕ} → (n ≡ absent → ⊥) → 0 < n
-      positive h = omega arith
+      let f = place_of Status.Absent r.status member a.present in (f.0, omega (arith, g.status_length))
 
   abbrev Other : ℕ → Type 0
-  Other n = (figure r.status n ≡ live) × (n ≡ member → ⊥)
+  Other n = (status_at r.status n ≡ Status.Live) × (n ≡ member → ⊥)
 
   -- the marks of the others
-  marked : (n : ℕ) → figure r.status n ≡ live → (member ≡ n → ⊥) → (k : ℕ) → n ≡ suc k → get_or (others r.status member) k false ≡ true
+  marked : (n : ℕ) → status_at r.status n ≡ Status.Live → (member ≡ n → ⊥) → (k : ℕ) → n ≡ suc k → get_or (others r.status member) k false ≡ true
   marked n s d k e =
-      get_or-map_any (eqb live) (replace r.status member in_default) k refl
-      ∙ ap (eqb live) (sym (ap (figure (replace r.status member in_default)) e) ∙ figure_other r.status member n in_default defaulter_known.0 d ∙ s)
+      live_at (replace r.status member Status.InDefault) k
+      ∙ ap is_live (sym (ap (status_at (replace r.status member Status.InDefault)) e) ∙ other_member Status.Absent r.status member n Status.InDefault defaulter_known.0 d ∙ s)
 
   -- the figures of the settled register ------------------------------------------
 
@@ -99,8 +94,8 @@ module _ (r : Register) (g : GivenBack r) (member : ℕ) (pools : Pools) (ranks 
       go : (m : ℕ) → 0 < m → m ≡ member → figure charged m ≡ 0
       go zero h e = refl
       go (suc k) h e =
-          let s : get_or (replace r.status member in_default) k 0 ≡ in_default =
-          figure_same r.status member (suc k) in_default defaulter_known.0 (omega (arith, defaulter_known, g.status_length)) (sym e) in
+          let s : get_or (replace r.status member Status.InDefault) k Status.Absent ≡ Status.InDefault =
+          same_member Status.Absent r.status member (suc k) Status.InDefault defaulter_known.0 (omega (arith, defaulter_known, g.status_length)) (sym e) in
           omega (
             arith,
             layer4.weighed k,
@@ -120,7 +115,7 @@ module _ (r : Register) (g : GivenBack r) (member : ℕ) (pools : Pools) (ranks 
 
   -- each rank that is read of a pool is 1 to the limit
   pub ranked_other : (p : ℕ) → p < pools.count → (n : ℕ) → Other n → (0 < figure (pool_ranks ranks p) n) × (figure (pool_ranks ranks p) n ≤ rank_limit)
-  ranked_other p h zero o = absurd (omega (arith, o.0))
+  ranked_other p h zero o = let e : Status.Absent ≡ Status.Live = o.0 in absurd (cc)
   ranked_other p h (suc k) o =
       let m = marked (suc k) o.0 (λ e. o.1 (sym e)) k refl in
       ranks-read (others r.status member) (pool_ranks ranks p) (pool_well-ranked (others r.status member) ranks pools.count a.well_ranked p h) k
@@ -172,10 +167,10 @@ module _ (r : Register) (g : GivenBack r) (member : ℕ) (pools : Pools) (ranks 
 
   -- with one pool, only where every more junior one is emptied
   module _ (one : pools.count ≡ 1) where
-    as_before : Admitted r.status member pools.loss1 ranks (length slip)
+    as_before : Admitted r.status member (loss_of pools 0) ranks (length slip)
     as_before = admitted_one r.status member pools ranks (length slip) one a
 
-    by_its-ranks : charged ≡ charges r member pools.loss1 ranks
+    by_its-ranks : charged ≡ charges r member (loss_of pools 0) ranks
     by_its-ranks = same-charges r g member pools one ranks (length slip) as_before
 
     own : (n : ℕ) → figure (pool_ranks ranks 0) n ≡ figure ranks n
@@ -193,5 +188,5 @@ module _ (r : Register) (g : GivenBack r) (member : ℕ) (pools : Pools) (ranks 
           weight (suc j) o,
         )
       where
-        whole : (i j : ℕ) → 0 < get_or (charges r member pools.loss1 ranks) i 0 → get_or ranks i 0 < get_or ranks j 0 → get_or ranks j 0 ≤ rank_limit → get_or (charges r member pools.loss1 ranks) j 0 ≡ get_or (standing_of r member) j 0
-        whole = juniors_charged r member pools.loss1 ranks
+        whole : (i j : ℕ) → 0 < get_or (charges r member (loss_of pools 0) ranks) i 0 → get_or ranks i 0 < get_or ranks j 0 → get_or ranks j 0 ≤ rank_limit → get_or (charges r member (loss_of pools 0) ranks) j 0 ≡ get_or (standing_of r member) j 0
+        whole = juniors_charged r member (loss_of pools 0) ranks

@@ -5,10 +5,10 @@ use mathlib.Core.Bool.{false, cond, ◌&&◌}
 use mathlib.Core.List.{List, [], ◌∷◌, ◌++◌}
 use native.Mathlib.Omega.{arith}
 use Rattle.lists.proofs.Checks.{neither}
-use Rattle.figures.specs.Figures.{live, in_default, figure}
-use Rattle.waterfall.specs.Register.{GivenBack}
+use Rattle.figures.specs.Figures.{figure, status_at}
+use Rattle.figures.specs.declared.Status.{Status}
+use Rattle.waterfall.specs.Register.{Register, GivenBack}
 use Rattle.waterfall.specs.Reply.{layer1, layer2, layer3, layer4, layer5, layer6}
-use Rattle.waterfall.specs.declared.Register.{Register}
 use Rattle.drill.specs.Drill.{Step, Event, event_of, trace}
 use Rattle.drill.specs.Counting.{accepted, defaults, is_close, loss_in, short_in, fallen_in, fallen_by, layer_in, layer_by, charge_on, call_on, paid_by, replenished_by, sum_over, last_register, defaulted, called_since}
 use Rattle.drill.specs.declared.DrillCall.{DrillCall}
@@ -103,8 +103,8 @@ module _ (after : List Event) where
       run.1
 
   -- who is live stays so until an accepted default names it
-  pub last-live : (m : ℕ) (before : List Event) (r : Register) → figure r.status m ≡ live → defaulted m before ≡ false → Run r (before ++ after)
-      → figure (last_register r before).status m ≡ live
+  pub last-live : (m : ℕ) (before : List Event) (r : Register) → status_at r.status m ≡ Status.Live → defaulted m before ≡ false → Run r (before ++ after)
+      → status_at (last_register r before).status m ≡ Status.Live
   unfolding last_register defaulted
   last-live m [] r s d run = s
   last-live m (b ∷ before) r s d run =
@@ -112,13 +112,13 @@ module _ (after : List Event) where
       last-live m before b.register (run.0.stays-live m s n.0) n.1 run.1
 
 -- who is in default stays so
-last_in-default : (m : ℕ) (events : List Event) (r : Register) → figure r.status m ≡ in_default → Run r events → figure (last_register r events).status m ≡ in_default
+last_in-default : (m : ℕ) (events : List Event) (r : Register) → status_at r.status m ≡ Status.InDefault → Run r events → status_at (last_register r events).status m ≡ Status.InDefault
 unfolding last_register
 last_in-default m [] r s run = s
 last_in-default m (e ∷ events) r s run = last_in-default m events e.register (run.0.stays_in-default m s) run.1
 
-pub ever_after : (m : ℕ) (before : List Event) (r : Register) (e : Event) (after : List Event) → Run r (before ++ e ∷ after) → figure e.register.status m ≡ in_default
-    → figure (last_register r (before ++ e ∷ after)).status m ≡ in_default
+pub ever_after : (m : ℕ) (before : List Event) (r : Register) (e : Event) (after : List Event) → Run r (before ++ e ∷ after) → status_at e.register.status m ≡ Status.InDefault
+    → status_at (last_register r (before ++ e ∷ after)).status m ≡ Status.InDefault
 unfolding last_register
 ever_after m [] r e after run s = last_in-default m after e.register s run.1
 ever_after m (b ∷ before) r e after run s = ever_after m before b.register e after run.1 s

@@ -8,10 +8,11 @@ use borrow.Author.Tests.{not-true}
 use Rattle.lists.specs.Limits.{rank_limit}
 use Rattle.lists.proofs.Checks.{both}
 use Rattle.waterfall.specs.Opening.{opened_of}
-use Rattle.figures.specs.Figures.{live, in_default, figure}
+use Rattle.figures.specs.Figures.{figure, status_at}
+use Rattle.figures.specs.declared.Status.{Status}
 use Rattle.admission.specs.Admission.{pool_ranks}
 use Rattle.admission.specs.declared.Pools.{Pools}
-use Rattle.waterfall.specs.declared.Register.{Register}
+use Rattle.waterfall.specs.Register.{Register}
 use Rattle.figures.proofs.Figures.{figure-le}
 use Rattle.waterfall.proofs.Entered.{given-opened}
 use Rattle.drill.specs.Drill.{Step, Event, trace}
@@ -36,7 +37,7 @@ module _ (sheet : List ℕ) (g : ℕ) (steps : List Step) where
   run_of es q = subst (λ (xs : List Event). Run opened xs) q run
 
   -- who is counted as live is so in the register
-  counted-live : (before after : List Event) → Run opened (before ++ after) → (m : ℕ) → live_after sheet g before m ≡ true → figure (last_register opened before).status m ≡ live
+  counted-live : (before after : List Event) → Run opened (before ++ after) → (m : ℕ) → live_after sheet g before m ≡ true → status_at (last_register opened before).status m ≡ Status.Live
   counted-live before after r m l =
       let a = both (opening_accepted sheet g && named sheet m) (not (defaulted m before)) l in
       let b = both (opening_accepted sheet g) (named sheet m) a.0 in
@@ -101,8 +102,8 @@ module _ (sheet : List ℕ) (g : ℕ) (steps : List Step) where
 
   -- "The defaulter is then in default for good.": whom an accepted default names is in default in the register last given back
   pub in-default_for_good : (before : List Event) (e : Event) (after : List Event) → events ≡ before ++ e ∷ after
-      → (m : ℕ) (pools : Pools) → e.call ≡ Default m pools → accepted e ≡ true → figure (last_register opened events).status m ≡ in_default
+      → (m : ℕ) (pools : Pools) → e.call ≡ Default m pools → accepted e ≡ true → status_at (last_register opened events).status m ≡ Status.InDefault
   in-default_for_good before e after q m pools c t =
       let r : Run opened (before ++ e ∷ after) = run_of _ q in
-      ap (λ (es : List Event). figure (last_register opened es).status m) q
+      ap (λ (es : List Event). status_at (last_register opened es).status m) q
       ∙ ever_after m before opened e after r ((next_laws before opened e after r).in-default m pools c t)

@@ -1,7 +1,6 @@
 -- Document 01, "What statement 3 counts": counted from the sheet, G, the calls, their answers and slips. Of a register, only what it holds and
 -- what is outstanding is read.
-use Rattle.std.specs.Prelude.{ℕ, zero, suc, ◌+◌, Bool, true, false, cond, not, ◌&&◌, ◌||◌, List, [], ◌∷◌, eqb, ltb, take, drop}
-use Rattle.lists.specs.Checks.{refuses}
+use Rattle.std.specs.Prelude.{ℕ, zero, suc, ◌+◌, Bool, true, false, cond, not, ◌&&◌, ◌||◌, List, [], ◌∷◌, eqb, ltb, take, drop, is_none, is_ok}
 use Rattle.lists.specs.Limits.{member_limit}
 use Rattle.sheets.specs.Bytes.{record_at}
 use Rattle.sheets.specs.Members.{member_at, first_at, second_at, third_at}
@@ -9,8 +8,8 @@ use Rattle.sheets.specs.Sheet.{record_count}
 use Rattle.waterfall.specs.Opening.{tranche1_of, tranche2_of, opened_of}
 use Rattle.figures.specs.Figures.{figure}
 use Rattle.waterfall.specs.Pools.{loss_together}
-use Rattle.waterfall.specs.Reply.{Layer, reply_number, fallen_of, layer_of, short_of}
-use Rattle.waterfall.specs.declared.Register.{Register}
+use Rattle.waterfall.specs.Reply.{Layer, fallen_of, layer_of, short_of}
+use Rattle.waterfall.specs.Register.{Register}
 use Rattle.drill.specs.Drill.{Event}
 use Rattle.drill.specs.declared.DrillCall.{DrillCall}
 use Rattle.drill.specs.declared.DrillCall.TheVariants.{Default, Payment, Replenishment, Close}
@@ -19,7 +18,7 @@ use Rattle.drill.specs.declared.DrillCall.TheVariants.{Default, Payment, Repleni
 
 -- "After a refused opening nobody is live and every opening sum is 0."
 abbrev pub opening_accepted : List ℕ → ℕ → Bool
-opening_accepted sheet g = not (refuses (opened_of sheet g).refusal.number)
+opening_accepted sheet g = is_none (opened_of sheet g).refusal
 
 -- of n records from record i on, the figures of those that name the member, added (members rise, so there is one at most)
 unfoldable pub figures_from : (List ℕ → ℕ) → ℕ → ℕ → List ℕ → ℕ → ℕ
@@ -59,7 +58,7 @@ module _ (sheet : List ℕ) (g : ℕ) where
 
 -- "A refused drill call counts for nothing."
 abbrev pub accepted : Event → Bool
-accepted e = not (refuses (reply_number e.reply))
+accepted e = is_ok e.reply
 
 abbrev pub if_accepted : Event → ℕ → ℕ
 if_accepted e n = cond (accepted e) n 0

@@ -1,11 +1,11 @@
 -- What a drill call does, and the trace of a list of calls.
-use Rattle.std.specs.Prelude.{ℕ, List, [], ◌∷◌}
+use Rattle.std.specs.Prelude.{ℕ, List, [], ◌∷◌, Option}
+use Rattle.refusal.specs.declared.Refusal.{Refusal}
+use Rattle.waterfall.specs.Register.{Register}
 use Rattle.waterfall.specs.Pools.{pooled_allocation, pooled_refusal, pooled_of, pooled_slip}
 use Rattle.waterfall.specs.Calls.{payment_refusal, payment_of, replenishment_refusal, replenishment_of, close_refusal, close_of}
-use Rattle.waterfall.specs.Reply.{nothing}
+use Rattle.waterfall.specs.Reply.{Reply, nothing}
 use Rattle.waterfall.specs.declared.Allocation.{Allocation}
-use Rattle.waterfall.specs.declared.Register.{Register}
-use Rattle.waterfall.specs.declared.Reply.{Reply}
 use Rattle.waterfall.specs.declared.Outcome.{Outcome}
 use Rattle.drill.specs.declared.DrillCall.{DrillCall}
 use Rattle.drill.specs.declared.DrillCall.TheVariants.{Default, Payment, Replenishment, Close}
@@ -24,8 +24,8 @@ slip_left r (Payment member amount) ranks slip = slip
 slip_left r (Replenishment member amount) ranks slip = slip
 slip_left r Close ranks slip = slip
 
--- the number of its refusal, 0 where it is accepted, and what it allocates: only a default does
-abbrev pub refusal_of : Register → DrillCall → List ℕ → List ℕ → ℕ
+-- its refusal, if it is refused, and what it allocates: only a default does
+abbrev pub refusal_of : Register → DrillCall → List ℕ → List ℕ → Option Refusal
 refusal_of r (Default member pools) ranks slip = pooled_refusal r member pools ranks slip
 refusal_of r (Payment member amount) ranks slip = payment_refusal r member amount
 refusal_of r (Replenishment member amount) ranks slip = replenishment_refusal r member amount

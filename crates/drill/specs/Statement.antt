@@ -6,7 +6,7 @@ use Rattle.admission.specs.Admission.{pool_ranks}
 use Rattle.admission.specs.declared.Pools.{Pools}
 use Rattle.waterfall.specs.Pools.{pool_portions, pool_charges}
 use Rattle.waterfall.specs.Reply.{Layer, layer1, layer2, layer3, layer4, layer5, layer6}
-use Rattle.waterfall.specs.declared.Register.{Register}
+use Rattle.waterfall.specs.Register.{Register}
 use Rattle.drill.specs.Drill.{Step, Event, trace}
 use Rattle.drill.specs.Counting.{opening_margin, opening_contribution, opening_tranche1, opening_tranche2, sheet_cap, accepted, loss_in, short_in, fallen_in, fallen_by, layer_in, layer_by, charge_on, call_on, paid_by, replenished_by, sum_over, last_register, live_after, called_since}
 use Rattle.drill.specs.declared.DrillCall.TheVariants.{Default}

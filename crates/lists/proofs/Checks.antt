@@ -1,8 +1,7 @@
 -- Laws of `check`. The set `checks` has `search` find the check that holds by what is known of the numbers.
 use Prim.Native.Nat.{ℕ, ◌≤◌, ◌<◌}
 use mathlib.Core.Path.{◌≡◌, refl, sym, ap, ◌∙◌}
-use mathlib.Core.Bool.{Bool, true, false, ◌||◌, ◌&&◌, not, true≢false, false≢true, or_assoc}
-use mathlib.Core.Logic.{◌⊎◌, inl, inr}
+use mathlib.Core.Bool.{Bool, true, false, ◌||◌, ◌&&◌, true≢false, false≢true, or_assoc}
 use borrow.Author.Tests.{lt-ltb, le-ltb, le-leb, lt-leb, eq-eqb, ne_eqb, ltb-false}
 use native.Mathlib.Omega.{arith}
 use lib.Dec.{eqb, ltb, leb}
@@ -42,22 +41,6 @@ module _ {A : Type 0} {x : A} (a b : A) where
   pub check_no : (t u : Bool) → u ≡ t → u ≡ false → x ≡ b → x ≡ check t a b
   check_no t u e h q = check-false t (sym e ∙ h) q
 
-  -- and a number that a function answered
-  pub check_is : (m n k : ℕ) → k ≡ m → k ≡ n → x ≡ a → x ≡ check (eqb m n) a b
-  check_is m n k e h q = check-eq m n (sym e ∙ h) q
-
-  pub check_isnt : (m n k : ℕ) → k ≡ m → (k ≡ n → ⊥) → x ≡ b → x ≡ check (eqb m n) a b
-  check_isnt m n k e h q = check_ne m n (λ i. h (e ∙ i)) q
-
-  -- and one whose answer is turned round
-  pub check-not_yes : (t u : Bool) → u ≡ t → not u ≡ true → x ≡ a → x ≡ check (not t) a b
-  check-not_yes t u e h q = check-true (not t) (ap not (sym e) ∙ h) q
-
-  pub check-not_no : (t u : Bool) → u ≡ t → not u ≡ false → x ≡ b → x ≡ check (not t) a b
-  check-not_no t u e h q = check-false (not t) (ap not (sym e) ∙ h) q
-
-pub ruleset answers = (check_yes, check_no, check-not_yes, check-not_no)
-
 pub ruleset checks = (check-lt, check_nlt, check-le, check_nle, check-eq, check_ne)
 
 -- what holds of each answer under its test holds of the answer
@@ -96,11 +79,7 @@ and_right false b p e = absurd (false≢true p)
 pub no-refusal : (n : ℕ) → ltb 0 n ≡ false → n ≡ 0
 no-refusal n e = omega (arith, ltb-false 0 n e)
 
--- where one of two tests or the other holds, one of them does; where both together hold, each does
-pub either : (a b : Bool) → (a || b) ≡ true → (a ≡ true) ⊎ (b ≡ true)
-either true b e = inl refl
-either false b e = inr e
-
+-- where two tests hold together, each does
 pub both : (a b : Bool) → (a && b) ≡ true → (a ≡ true) × (b ≡ true)
 both true b e = (refl, e)
 both false b e = absurd (false≢true e)
@@ -112,17 +91,3 @@ any_turn f u t here rest whole e s q = or_assoc f u rest ∙ ap (λ (v : Bool). 
 pub any_done : (f rest whole : Bool) → rest ≡ false → (f || rest) ≡ whole → f ≡ whole
 any_done true rest whole h q = q
 any_done false rest whole h q = sym h ∙ q
-
--- two rows of the same checks: of the first a number, 0 where no check holds; of the second what `of` makes of that number, `rest` where none does
-pub record Row {A : Type 0} (of : ℕ → A) (rest : A) (n : ℕ) (a : A) : Type 0 where
-  pub refused : 0 < n → a ≡ of n
-  pub passed : n ≡ 0 → a ≡ rest
-
-module _ {A : Type 0} (of : ℕ → A) (rest : A) where
-  pub row-end : Row of rest 0 rest
-  row-end = record { refused = λ h. absurd (omega arith); passed = λ e. refl }
-
-  pub row-check : (t : Bool) (n : ℕ) {m : ℕ} {a : A} → 0 < n → Row of rest m a → Row of rest (check t n m) (check t (of n) a)
-  unfolding check
-  row-check true n h w = record { refused = λ _. refl; passed = λ e. absurd (omega arith) }
-  row-check false n h w = w

@@ -1,23 +1,12 @@
 -- Laws of the highest of a list and of the second highest.
-use Prim.Native.Nat.{ℕ, ◌+◌, ◌≤◌, ◌<◌, max, zero-le}
+use Prim.Native.Nat.{ℕ, ◌≤◌, ◌<◌, max, zero-le}
 use mathlib.Core.Path.{◌≡◌, refl, ap, sym}
 use mathlib.Core.List.{List, [], ◌∷◌}
-use native.Mathlib.Numerals.{add-one}
 use native.Mathlib.Omega.{arith}
 use borrow.Author.Tests.{eqb-true}
 use lib.Dec.{eqb}
-use lib.ListN.{length, get_or, drop, drop_of_length-le}
-use lib.Seq.{drop-cons}
 use Rattle.lists.proofs.Checks.{check_by, check-eq}
 use Rattle.lists.specs.Highest.{highest, without}
-
-pub highest_step : (xs : List ℕ) (i : ℕ) → i < length xs → highest (drop i xs) ≡ max (get_or xs i 0) (highest (drop (i + 1) xs))
-unfolding highest
-highest_step xs i h = rw (add-one, drop-cons xs i 0)
-
-pub highest-end : (xs : List ℕ) (i : ℕ) → length xs ≤ i → highest (drop i xs) ≡ 0
-unfolding highest
-highest-end xs i h = rw (drop_of_length-le xs h)
 
 -- the highest of a list from which a number is taken is no higher
 pub without-le : (x : ℕ) (xs : List ℕ) → highest (without x xs) ≤ highest xs

@@ -1,6 +1,6 @@
 -- What holds at every place of a list, after a place is replaced.
 use Prim.Native.Nat.{ℕ, zero, suc, ◌+◌, ◌-◌, ◌<◌}
-use mathlib.Core.Path.{◌≡◌, refl, ap, sym, ◌∙◌}
+use mathlib.Core.Path.{◌≡◌, refl, ap, ◌∙◌}
 use mathlib.Core.Bool.{Bool, true, false, cond}
 use mathlib.Core.Logic.{⊎_elim}
 use mathlib.Core.List.{List, [], ◌∷◌, map}
@@ -18,30 +18,6 @@ set_all P (x ∷ xs) zero v h p zero = p
 set_all P (x ∷ xs) zero v h p (suc k) = h (suc k)
 set_all P (x ∷ xs) (suc i) v h p zero = h zero
 set_all P (x ∷ xs) (suc i) v h p (suc k) = set_all (λ n y. P (suc n) y) xs i v (λ n. h (suc n)) p k
-
--- the same of two lists in which one place is replaced
-pub set_both : (P : ℕ → ℕ → ℕ → Type 0) (xs ys : List ℕ) (i v w : ℕ) → length xs ≡ length ys → ((k : ℕ) → P k (get_or xs k 0) (get_or ys k 0)) → P i v w
-    → (k : ℕ) → P k (get_or (set xs i v) k 0) (get_or (set ys i w) k 0)
-set_both P [] [] i v w e h p k = h k
-set_both P [] (y ∷ ys) i v w e h p k = absurd (omega arith)
-set_both P (x ∷ xs) [] i v w e h p k = absurd (omega arith)
-set_both P (x ∷ xs) (y ∷ ys) zero v w e h p zero = p
-set_both P (x ∷ xs) (y ∷ ys) zero v w e h p (suc k) = h (suc k)
-set_both P (x ∷ xs) (y ∷ ys) (suc i) v w e h p zero = h zero
-set_both P (x ∷ xs) (y ∷ ys) (suc i) v w e h p (suc k) =
-    set_both (λ n a b. P (suc n) a b) xs ys i v w (omega arith) (λ n. h (suc n)) p k
-
--- a test mapped over a list, at a place of it
-pub get_d_map : (f : ℕ → Bool) (xs : List ℕ) (k : ℕ) → k < length xs → get_or (map f xs) k false ≡ f (get_or xs k 0)
-get_d_map f [] k h = absurd (omega arith)
-get_d_map f (x ∷ xs) zero h = refl
-get_d_map f (x ∷ xs) (suc k) h = get_d_map f xs k (omega arith)
-
--- a test that 0 fails, at any place
-pub get_or-map_any : (f : ℕ → Bool) (xs : List ℕ) (k : ℕ) → f 0 ≡ false → get_or (map f xs) k false ≡ f (get_or xs k 0)
-get_or-map_any f [] k e = sym e
-get_or-map_any f (x ∷ xs) zero e = refl
-get_or-map_any f (x ∷ xs) (suc k) e = get_or-map_any f xs k e
 
 -- a place of a list replaced, and what a function makes of it
 pub map-set : {A B : Type 0} (f : A → B) (xs : List A) (i : ℕ) (x : A) → map f (set xs i x) ≡ set (map f xs) i (f x)

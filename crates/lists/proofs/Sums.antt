@@ -6,7 +6,7 @@ use mathlib.Core.List.{List, [], ◌∷◌, map}
 use native.Mathlib.Nat.{add_assoc, mul-suc, sub-zero}
 use native.Mathlib.Numerals.{add-one}
 use native.Mathlib.Omega.{arith}
-use lib.ListN.{length, get_or, drop, set, replicate, drop_of_length-le}
+use lib.ListN.{length, get_or, drop, set, replicate}
 use lib.Seq.{drop-cons}
 use Rattle.lists.specs.Sums.{total, plus, minus, keep}
 
@@ -26,15 +26,15 @@ get_or-none xs e k = omega (arith, get_or-le-total xs k)
 pub total_step : (xs : List ℕ) (i : ℕ) → i < length xs → total (drop i xs) ≡ get_or xs i 0 + total (drop (i + 1) xs)
 total_step xs i h = rw (add-one, drop-cons xs i 0)
 
-pub total-end : (xs : List ℕ) (i : ℕ) → length xs ≤ i → total (drop i xs) ≡ 0
-total-end xs i h = rw (drop_of_length-le xs h)
-
 pub total_zeros : (n : ℕ) → total (replicate n 0) ≡ 0
 total_zeros zero = refl
 total_zeros (suc n) = omega (arith, total_zeros n)
 
 pub get_or_zeros : (n k : ℕ) → ◌≡◌ {A = ℕ} (get_or (replicate n 0) k 0) 0
 get_or_zeros n k = get_or-none (replicate n 0) (total_zeros n) k
+
+pub zeros_within : (b n k : ℕ) → get_or (replicate n 0) k 0 ≤ b
+zeros_within b n k = omega (arith, get_or_zeros n k)
 
 -- only zeros add to 0
 pub zeros : (n : ℕ) (xs : List ℕ) → length xs ≡ n → total xs ≡ 0 → replicate n 0 ≡ xs
@@ -55,14 +55,6 @@ total-le (x ∷ xs) (y ∷ ys) h p = omega (arith, p 0, total-le xs ys (omega ar
 pub total_bound : (b : ℕ) (xs : List ℕ) → ((k : ℕ) → get_or xs k 0 ≤ b) → total xs ≤ b * length xs
 total_bound b [] p = zero-le
 total_bound b (x ∷ xs) p = omega (arith, p 0, total_bound b xs (λ k. p (suc k)), mul-suc b (length xs))
-
--- a list of numbers at most b stays one after a store of such a number
-pub set_bound : (b : ℕ) (xs : List ℕ) (j v : ℕ) → ((k : ℕ) → get_or xs k 0 ≤ b) → v ≤ b → (k : ℕ) → get_or (set xs j v) k 0 ≤ b
-set_bound b [] j v p h k = p k
-set_bound b (x ∷ xs) zero v p h zero = h
-set_bound b (x ∷ xs) zero v p h (suc k) = p (suc k)
-set_bound b (x ∷ xs) (suc j) v p h zero = p 0
-set_bound b (x ∷ xs) (suc j) v p h (suc k) = set_bound b xs j v (λ n. p (suc n)) h k
 
 -- a list that adds to nothing is all zeros
 pub all_zeros : (xs : List ℕ) → total xs ≡ 0 → xs ≡ replicate (length xs) 0
@@ -123,10 +115,6 @@ none-plus (x ∷ xs) (y ∷ ys) h e =
     let n : x + y ≡ x = omega arith in
     rw (n, none-plus xs ys (omega arith) (omega arith))
 
-pub plus_step : (xs ys : List ℕ) (i : ℕ) → i < length xs → i < length ys
-    → plus (drop i xs) (drop i ys) ≡ (get_or xs i 0 + get_or ys i 0) ∷ plus (drop (i + 1) xs) (drop (i + 1) ys)
-plus_step xs ys i h k = rw (add-one, drop-cons xs i 0, drop-cons ys i 0)
-
 -- differences place by place -------------------------------------------------------
 
 pub length-minus : (xs ys : List ℕ) → length (minus xs ys) ≡ length xs
@@ -145,10 +133,6 @@ total-minus [] [] h p = refl
 total-minus [] (y ∷ ys) h p = absurd (omega arith)
 total-minus (x ∷ xs) [] h p = omega arith
 total-minus (x ∷ xs) (y ∷ ys) h p = omega (arith, p 0, total-minus xs ys (omega arith) (λ k. p (suc k)))
-
-pub minus_step : (xs ys : List ℕ) (i : ℕ) → i < length xs → i < length ys
-    → minus (drop i xs) (drop i ys) ≡ (get_or xs i 0 - get_or ys i 0) ∷ minus (drop (i + 1) xs) (drop (i + 1) ys)
-minus_step xs ys i h k = rw (add-one, drop-cons xs i 0, drop-cons ys i 0)
 
 -- a list of zeros takes nothing
 pub minus-none : (xs ys : List ℕ) → total ys ≡ 0 → minus xs ys ≡ xs
@@ -189,10 +173,6 @@ kept bs xs k e = get_or-keep bs xs k ∙ ap (λ (b : Bool). cond b (get_or xs k 
 
 pub unkept : (bs : List Bool) (xs : List ℕ) (k : ℕ) → get_or bs k false ≡ false → get_or (keep bs xs) k 0 ≡ 0
 unkept bs xs k e = get_or-keep bs xs k ∙ ap (λ (b : Bool). cond b (get_or xs k 0) 0) e
-
-pub keep_step : (bs : List Bool) (xs : List ℕ) (i : ℕ) → i < length bs → i < length xs
-    → keep (drop i bs) (drop i xs) ≡ cond (get_or bs i false) (get_or xs i 0) 0 ∷ keep (drop (i + 1) bs) (drop (i + 1) xs)
-keep_step bs xs i h k = rw (add-one, drop-cons bs i false, drop-cons xs i 0)
 
 -- what is kept twice is kept once
 pub keep-keep : (bs : List Bool) (xs : List ℕ) → keep bs (keep bs xs) ≡ keep bs xs

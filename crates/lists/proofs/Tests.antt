@@ -1,12 +1,12 @@
 -- Laws of tests on numbers, and of tests joined.
 use Prim.Native.Nat.{ℕ, ◌+◌, ◌-◌, ◌≤◌, ◌<◌}
-use mathlib.Core.Path.{◌≡◌, refl, ap, sym, ◌∙◌}
-use mathlib.Core.Bool.{Bool, true, false, ◌||◌, ◌&&◌, not, or-false}
+use mathlib.Core.Path.{◌≡◌, refl, sym, ◌∙◌}
+use mathlib.Core.Bool.{Bool, true, false, ◌||◌}
 use mathlib.Core.Logic.{◌⊎◌, inl, inr, ⊎_elim}
 use native.Mathlib.Nat.{eq-zero-or-pos}
 use native.Mathlib.Omega.{arith}
-use borrow.Author.Tests.{lt-ltb, le-ltb, eq-eqb, ne_eqb, ltb-true, ltb-false}
-use lib.Dec.{eqb, ltb}
+use borrow.Author.Tests.{lt-ltb, le-ltb, ltb-true, ltb-false}
+use lib.Dec.{ltb}
 
 pub below : (a b : ℕ) → (a < b) ⊎ (b ≤ a)
 below a b = ⊎_elim (λ z. inr (omega arith)) (λ p. inl (omega arith)) (eq-zero-or-pos (b - a))
@@ -20,7 +20,7 @@ module _ (a b c d : ℕ) (f : a < b → c < d) (g : b ≤ a → d ≤ c) where
   pub same_test : ltb a b ≡ ltb c d
   same_test = by_value (ltb a b) refl
 
--- a sum is above 0 where one of the two is, and a multiple where the number is
+-- a sum is above 0 where one of the two is
 pub positive-sum : (a b : ℕ) → ltb 0 (a + b) ≡ (ltb 0 a || ltb 0 b)
 positive-sum a b =
     ⊎_elim
@@ -29,29 +29,6 @@ positive-sum a b =
     rw (e, le-ltb 0 a (omega arith)))
     (λ p. rw (lt-ltb 0 (a + b) (omega arith), lt-ltb 0 a (omega arith)))
     (eq-zero-or-pos a)
-
-pub positive_multiple : (a m : ℕ) → a ≤ m → (a ≡ 0 → m ≡ 0) → ltb 0 m ≡ ltb 0 a
-positive_multiple a m h z =
-    ⊎_elim
-    (λ e. ap (ltb 0) (z e ∙ sym e))
-    (λ p. rw (lt-ltb 0 m (omega arith), lt-ltb 0 a (omega arith)))
-    (eq-zero-or-pos a)
-
-pub zero_test : (n : ℕ) → eqb n 0 ≡ not (ltb 0 n)
-zero_test n =
-    ⊎_elim
-    (λ z. rw (eq-eqb n 0 z, le-ltb 0 n (omega arith)))
-    (λ p. rw (ne_eqb n 0 (λ q. omega arith), lt-ltb 0 n p))
-    (eq-zero-or-pos n)
-
-pub not-or : (a b : Bool) → not (a || b) ≡ (not a && not b)
-not-or true b = refl
-not-or false b = refl
-
--- where two tests do not hold together, the second adds nothing to what is asked beside the first
-pub not_both : (a b c d : Bool) → (a && b) ≡ false → (a && c) ≡ (a && (c || (b && d)))
-not_both true b c d e = rw (e, or-false)
-not_both false b c d e = refl
 
 -- an amount fits the room below a bound where the sum is within the bound, the two being read as `s` and `b`
 pub room_test : (s b stands bound amount : ℕ) → s ≡ stands → b ≡ bound → stands ≤ bound → ltb (b - s) amount ≡ ltb bound (stands + amount)

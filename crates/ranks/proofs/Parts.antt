@@ -8,9 +8,9 @@ use native.Mathlib.Nat.{eq-or-lt_of_le, sub-zero}
 use native.Mathlib.Numerals.{sub-one}
 use native.Mathlib.Omega.{arith}
 use lib.Dec.{eqb, ltb}
-use lib.ListN.{length, get_or, drop, set, replicate, drop_of_length-le, length-replicate, length-map}
+use lib.ListN.{length, get_or, drop, set, replicate, length-replicate, length-map}
 use borrow.Author.Tests.{eq-eqb, ne_eqb, lt-ltb, le-ltb}
-use Rattle.lists.specs.Limits.{member_limit, rank_limit, amount_limit, allocation_limit}
+use Rattle.lists.specs.Limits.{member_limit, rank_limit, amount_limit}
 use Rattle.lists.specs.Sums.{total, plus}
 use Rattle.lists.proofs.Places.{by_order, raised}
 use Rattle.lists.proofs.Sums.{zeros, all_zeros, total_zeros, get_or_zeros, total-plus, plus_assoc, plus_none, none-plus, length-keep, keep-le, cond-le, keep-map_step}
@@ -51,20 +51,6 @@ adding_turn ts ws rs i p hw hr ht e b (t, m) = (turn, bound)
 pub adding_start : (n : ℕ) (ws rs : List ℕ) → Adding (replicate n 0) ws rs 0
 adding_start n ws rs = ((λ q a h. omega (arith, get_or_zeros n q)), (λ q. omega (arith, get_or_zeros n q)))
 
-pub adding_done : (ts ws rs : List ℕ) (i : ℕ) → length rs ≤ i → Adding ts ws rs i → Totals ts ws rs
-adding_done ts ws rs i h (t, m) =
-    let n : drop i rs ≡ [] = drop_of_length-le rs h in
-    record { each = λ q a b. omega (arith, t q a b, ap (λ (xs : List ℕ). total (at_rank q (drop i ws) xs)) n) }
-
--- the next rank ------------------------------------------------------------------------
-
-pub passed_more : (ts : List ℕ) (at from : ℕ) → get_or ts at 0 ≤ 0 → Passed ts at from → Passed ts (at - 1) from
-passed_more ts at from z h p a b =
-    ⊎_elim
-    (λ e. ap (λ (k : ℕ). get_or ts k 0) (sym e) ∙ omega arith)
-    (λ l. h p l b)
-    (eq-or-lt_of_le (omega arith))
-
 -- the marginal rank's split ----------------------------------------------------------
 
 pub shares_asked : (margin : Margin) (ws rs tied charges : List ℕ) → Weighed ws rs → Shared margin (at_rank margin.rank ws rs) charges → 0 < margin.part
@@ -75,9 +61,6 @@ shares_asked margin ws rs tied charges w s p m n k e =
     (λ k. omega (arith, keep-le (map (eqb margin.rank) rs) ws k, w.weights_fit k))
     (length_at margin.rank ws rs (omega arith) ∙ m)
     k
-
-pub zeros_fit : (n k : ℕ) → get_or (replicate n 0) k 0 ≤ allocation_limit
-zeros_fit n k = omega (arith, get_or_zeros n k)
 
 -- where a rank gives nothing, its shares are all 0
 pub unshared : (part : ℕ) (tied charges : List ℕ) → part ≡ 0 → length charges ≡ length tied → total charges ≡ 0

@@ -34,7 +34,8 @@ struct Ranked<'a> {
 }
 
 // The ranks above the marginal one are charged whole, it gives `part` of the `whole` that it has, and those below it give nothing: `total`
-// together. Where every rank is charged whole, all are above rank 0, which has nobody and gives nothing.
+// together. Where every rank is charged whole, all are above rank 0, which has nobody and gives nothing: an Option would be one more case of each
+// charge.
 #[derive(Clone, Copy)]
 struct Margin {
     rank: u8,
@@ -43,7 +44,7 @@ struct Margin {
     total: u64,
 }
 
-// The highest rank, `from` at most, whose total is above 0.
+// The highest rank, `from` at most, whose total is above 0. Document 01's "Form by location" asks for this loop that yields it by break.
 fn next_rank(totals: &[u64; RANKS], from: u8) -> Option<u8>
     requires { from ≤ rank_limit }
     ensures { MatchOption result (Passed totals.now 0 from) (Next totals.now from) }

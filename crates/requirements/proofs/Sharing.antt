@@ -1,17 +1,16 @@
 -- Laws of a quantum shared: parts by the split, and parts joined to requirements.
-use Prim.Native.Nat.{ℕ, ◌+◌, ◌≤◌, ◌<◌, max}
-use mathlib.Core.Path.{◌≡◌, refl, ap, sym, ◌∙◌}
+use Prim.Native.Nat.{ℕ, ◌+◌, ◌<◌, max}
+use mathlib.Core.Path.{◌≡◌, ap, sym, ◌∙◌}
 use mathlib.Core.Bool.{Bool, false, cond}
 use mathlib.Core.List.{List, [], ◌∷◌, map}
 use native.Mathlib.Omega.{arith}
-use Rattle.std.specs.List.{sum, fold}
+use Rattle.std.specs.List.{fold}
 use Rattle.std.proofs.lemmas.List.{get_or-map}
-use Rattle.std.proofs.lemmas.List.Sums.{sum_by-cons}
 use lib.ListN.{length, get_or, replicate, length-map}
 use Rattle.lists.specs.Highest.{highest}
 use Rattle.lists.specs.Limits.{member_limit, contribution_floor}
 use Rattle.lists.specs.Sums.{total, plus, keep}
-use Rattle.lists.proofs.Sums.{all_zeros, get_or_zeros, length-plus, get_or-plus, length-keep, get_or-keep}
+use Rattle.lists.proofs.Sums.{all_zeros, length-plus, get_or-plus, length-keep, get_or-keep}
 use Rattle.split.specs.Split.{split_of}
 use Rattle.sheets.specs.declared.columns.Columns.{Columns}
 use Rattle.requirements.specs.Requirements.{average_volumes, average_margins, stress_losses, margin_part, stress_part, volume_part, parts_of, requirements_of}
@@ -24,9 +23,6 @@ no-shares l ws h e =
 
 pub total_of-none_at : (l : ℕ) (ws : List ℕ) → l ≡ 0 → total (split_of l ws) ≡ 0
 total_of-none_at l ws e = rw e (total_of-none ws)
-
-pub none_within : (n b k : ℕ) → get_or (replicate n 0) k 0 ≤ b
-none_within n b k = omega (arith, get_or_zeros n k)
 
 -- three parts joined
 abbrev pub joined_of : List Bool → List ℕ → List ℕ → List ℕ → List ℕ
@@ -57,11 +53,7 @@ pub requirements_joined : (q : ℕ) (columns : Columns) (present : List Bool) (m
 unfolding requirements_of parts_of
 requirements_joined q columns present margin stress volume p m s v = rw (p, m, s, v)
 
--- the total of a list is its sum, and the highest of it a fold, as std has them
-pub total_as_sum : (xs : List ℕ) → sum xs ≡ total xs
-total_as_sum [] = refl
-total_as_sum (x ∷ xs) = sum_by-cons (λ y. y) x xs ∙ ap (λ n. x + n) (total_as_sum xs)
-
+-- the highest of a list as std has it
 fold_highest : (a : ℕ) (xs : List ℕ) → fold max a xs ≡ max a (highest xs)
 unfolding highest
 fold_highest a [] = omega arith

@@ -124,6 +124,7 @@ fn joined(
 }
 
 impl SharesSheet {
+    // The columns, each added up.
     pub fn new(columns: Columns) -> Self
         ensures { result ≡ columns }
     {
@@ -155,7 +156,7 @@ impl SharesSheet {
         joined(&self.columns.present, &margin, &stress, &volume)
     }
 
-    // A quantum shared, or 9, or 10.
+    // A quantum shared, or refusal 9, or 10.
     #[tactic(auto, unfolding(lists::specs::Checks::check, crate::specs::Requirements::sharing_refusal))]
     pub fn share(&self, quantum: u64) -> Result<Shared, Refusal>
         requires { quantum ≤ allocation_limit }

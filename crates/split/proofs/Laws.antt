@@ -207,4 +207,4 @@ products_fit a b p q = let h = mul-le-mul p q in (h, omega (arith, h, mul_comm b
 pub splits_as : (sum whole : ℕ) (found weights shares : List ℕ) → found ≡ weights → sum ≤ allocation_limit → whole ≡ total weights → ((k : ℕ) → get_or weights k 0 ≤ amount_limit)
     → length weights ≡ member_limit → length shares ≡ member_limit → Splits sum whole found shares
 splits_as sum whole found weights shares e s w f l m =
-    rw e record { products_fit = λ k. (products_fit (get_or weights k 0) sum (f k) s).0; whole_is = w; few = omega arith; as_many = m ∙ sym l }
+    rw e record { products_fit = λ k. (products_fit (get_or weights k 0) sum (f k) s).0; whole_is = w; as_many = m ∙ sym l }

@@ -2,16 +2,17 @@
 use mathlib.Core.Path.{◌≡◌, ap, ◌∙◌}
 use native.Mathlib.Omega.{arith}
 use borrow.Author.Rules.{rules}
+use Rattle.lists.proofs.Sums.{zeros_within}
 use Rattle.split.specs.Split.{split_of}
 use Rattle.split.proofs.Laws.{split-le, splits_as}
 use Rattle.figures.proofs.Made.{mapped_as}
-use Rattle.requirements.proofs.Sharing.{no-shares, none_within, total_of-none_at}
+use Rattle.requirements.proofs.Sharing.{no-shares, total_of-none_at}
 use Rattle.requirements.proofs.part.Goals as goal
 
 pub returns-then-sum-eq0 : goal.returns-then-sum-eq0
 returns-then-sum-eq0 c = record {
   shared = no-shares _ _ (omega arith) (total_of-none_at _ _ c.if-sum-eq0.true);
-  within = none_within 64 c.args.sum;
+  within = zeros_within c.args.sum 64;
 }
 
 pub split-requires : goal.split-requires

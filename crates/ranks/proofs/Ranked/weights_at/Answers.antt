@@ -4,14 +4,14 @@ use native.Mathlib.Omega.{arith}
 use borrow.Author.Rules.{rules}
 use lib.Dec.{eqb}
 use lib.ListN.{replicate}
-use Rattle.lists.proofs.Sums.{none-plus, total_zeros}
+use Rattle.lists.specs.Limits.{allocation_limit}
+use Rattle.lists.proofs.Sums.{none-plus, total_zeros, zeros_within}
 use Rattle.ranks.specs.Ranks.{at_rank}
 use Rattle.ranks.proofs.Laws.{length_at}
-use Rattle.ranks.proofs.Parts.{zeros_fit}
 use Rattle.ranks.proofs.Ranked.weights_at.Goals as goal
 
 pub add_chosen-requires-clause-charges_fit : goal.add_chosen-requires-clause-charges_fit
-add_chosen-requires-clause-charges_fit c k = zeros_fit 64 k
+add_chosen-requires-clause-charges_fit c k = zeros_within allocation_limit 64 k
 
 pub returns : goal.returns
 returns c =

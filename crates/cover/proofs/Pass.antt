@@ -1,12 +1,11 @@
 -- The one pass over a stress sheet: what holds before each record, from the first to past the last.
-use Rattle.std.proofs.Common.{◌≡◌, ℕ, zero, suc, ◌+◌, ◌-◌, ◌*◌, ◌≤◌, ◌<◌, max, List, [], ◌∷◌, Bool, true, false, cond, get_or, Option, Some, None, Result, Ok, Err, refl, ap, sym, ◌∙◌, arith}
+use Rattle.std.proofs.Common.{◌≡◌, ℕ, zero, suc, ◌+◌, ◌-◌, ◌*◌, ◌≤◌, ◌<◌, List, [], ◌∷◌, Bool, true, false, cond, get_or, Option, Some, None, Result, Ok, Err, refl, ap, sym, ◌∙◌, arith}
 use Prim.Native.Nat.{zero-le}
-use native.Mathlib.Nat.{le_trans}
 use Rattle.std.specs.Simd.{first_chunks}
 use Rattle.lists.specs.Limits.{amount_limit, weak_limit}
 use Rattle.lists.proofs.Sums.{cond-le}
-use Rattle.lists.proofs.Checks.{check-true, check-false, check_nlt}
-use Rattle.lists.specs.Highest.{highest, without}
+use Rattle.lists.proofs.Checks.{check_nlt}
+use Rattle.lists.specs.Highest.{highest}
 use Rattle.lists.proofs.Highest.{without-le}
 use Rattle.refusal.specs.Refusal.{answered, located, at_record}
 use Rattle.refusal.specs.declared.Fault.{Fault}
@@ -15,15 +14,17 @@ use Rattle.refusal.proofs.Laws.{located_err, located_ok}
 use Rattle.sheets.specs.Bytes.{record_at, nonzero}
 use Rattle.sheets.specs.Sheet.{record_count}
 use Rattle.sheets.proofs.Laws.{chunk_at}
-use Rattle.stress.specs.Stress.{weak_at, loss_at, same_block, flags_before, passed, loss_of, stress_fault, stress_refusal_from, stress_refusal}
+use Rattle.stress.specs.Stress.{same_block, flags_before, passed, loss_of, stress_fault, stress_refusal_from, stress_refusal}
 use Rattle.stress.specs.declared.Before.{Before}
 use Rattle.stress.specs.declared.Loss.{Loss}
 use Rattle.stress.proofs.Laws.{LossInOrder, loss_in-order}
-use Rattle.cover.specs.Cover.{StressLoss, loss_record, records_from, records_of, blocks_from, blocks_of, member_losses, flagged_loss, flagged_sum, cover_of, weak_of, covered_of}
+use Rattle.cover.specs.Cover.{StressLoss, loss_record, records_from, records_of, blocks_from, blocks_of, member_losses, flagged_sum, cover_of, weak_of, covered_of}
 use Rattle.cover.specs.Parts.{block_of, worse_of, Slight}
 use Rattle.cover.specs.declared.Block.{Block}
 use Rattle.cover.specs.declared.Covered.{Covered}
-use Rattle.cover.proofs.Blocks.{worst_of, nothing, worst_of_all}
+use Rattle.std.proofs.lemmas.Bool.Decides.{nat_tests}
+use Rattle.lists.specs.Checks.{check}
+use Rattle.cover.proofs.Blocks.{block_of_none, worst_of, nothing, worst_of_all}
 
 -- the record before is the latest of the open block
 abbrev Follows : List StressLoss → Option Before → Type 0
@@ -36,6 +37,12 @@ abbrev flags_of : Option Before → ℕ
 flags_of None = 0
 flags_of (Some before) = before.flags
 
+-- amounts of a block whose losses are in order, and which has so many flags
+pub record Within (flags : ℕ) (block : Block) : Type 0 where
+  pub top_most : block.top ≤ amount_limit
+  pub second_most : block.second ≤ amount_limit
+  pub flagged_most : block.flagged ≤ amount_limit * flags
+
 -- before record i: what is left to refuse is the whole sheet's; the open block's records and what is kept of them; and that from here on the
 -- worst block of the sheet is still found
 pub record Pass (sheet : List ℕ) (i : ℕ) (before : Option Before) (block : Block) (worst : Covered) : Type 0 where
@@ -45,21 +52,26 @@ pub record Pass (sheet : List ℕ) (i : ℕ) (before : Option Before) (block : B
   pub follows : Follows records before
   pub whole : worst_of worst (blocks_from records (records_from (record_count sheet - i) sheet i)) ≡ worst_of nothing (blocks_of (records_of sheet))
   pub flags_most : flags_of before ≤ weak_limit
-  pub top_most : block.top ≤ amount_limit
-  pub second_most : block.second ≤ amount_limit
-  pub flagged_most : block.flagged ≤ amount_limit * flags_of before
+  pub within : Within (flags_of before) block
 
 pub slight : {sheet : List ℕ} {i : ℕ} {before : Option Before} {block : Block} {worst : Covered} → Pass sheet i before block worst → Slight block
 slight p =
     record {
-      top_most = p.top_most;
-      second_most = p.second_most;
-      flagged_most = omega (arith, p.flagged_most, p.flags_most);
+      top_most = p.within.top_most;
+      second_most = p.within.second_most;
+      flagged_most = omega (arith, p.within.flagged_most, p.flags_most);
     }
+
+-- no record yet
+none_within : Within 0 (block_of [])
+none_within = rw (← block_of_none) (record { top_most = zero-le; second_most = zero-le; flagged_most = zero-le })
+
+pub slight_none : Slight (block_of [])
+slight_none = rw (← block_of_none) (record { top_most = zero-le; second_most = zero-le; flagged_most = zero-le })
 
 -- the first record
 pub pass_begins : (sheet : List ℕ) → Pass sheet 0 None (block_of []) nothing
-unfolding block_of member_losses highest without flagged_sum stress_refusal
+unfolding stress_refusal
 pass_begins sheet =
     let all : record_count sheet - 0 ≡ record_count sheet = omega arith in
     record {
@@ -69,79 +81,43 @@ pass_begins sheet =
       follows = tt;
       whole = rw all refl;
       flags_most = zero-le;
-      top_most = zero-le;
-      second_most = zero-le;
-      flagged_most = zero-le;
+      within = none_within;
     }
 
--- what is kept of a block that a record joins stays within its limits
-module _ {b : Block} (xs : List StressLoss) (x : StressLoss) (is : b ≡ block_of (x ∷ xs)) where
-  joined_top : b.top ≤ max x.loss (block_of xs).top
-  unfolding block_of member_losses highest
-  joined_top = omega (arith, ap (λ (v : Block). v.top) is)
+-- a loss that a record flags
+flagged_within : (w l : ℕ) → l ≤ amount_limit → cond (nonzero w) l 0 ≤ amount_limit * w
+flagged_within zero l h = zero-le
+flagged_within (suc w) l h = omega (arith, cond-le (nonzero (suc w)) l)
 
-  joined_second : b.second ≤ b.top
-  unfolding block_of
-  joined_second =
-      omega (
-        arith,
-        ap (λ (v : Block). v.top) is,
-        ap (λ (v : Block). v.second) is,
-        without-le (highest (member_losses (x ∷ xs))) (member_losses (x ∷ xs)),
-      )
-
-  joined_flagged : b.flagged ≡ flagged_loss x + (block_of xs).flagged
-  unfolding block_of flagged_sum
-  joined_flagged = ap (λ (v : Block). v.flagged) is
-
-flagged-within : (w l : ℕ) → l ≤ amount_limit → cond (nonzero w) l 0 ≤ amount_limit * w
-flagged-within zero l h = zero-le
-flagged-within (suc w) l h = omega (arith, cond-le (nonzero (suc w)) l)
+-- a further record of a block
+joined_within : (flags : ℕ) (xs : List StressLoss) (x : StressLoss) → Within flags (block_of xs) → x.loss ≤ amount_limit → Within (flags + x.weak) (block_of (x ∷ xs))
+unfolding block_of member_losses highest flagged_sum
+joined_within flags xs x w h =
+    record {
+      top_most = omega (arith, w.top_most);
+      second_most = omega (arith, w.top_most, without-le (highest (member_losses (x ∷ xs))) (member_losses (x ∷ xs)));
+      flagged_most = omega (arith, w.flagged_most, flagged_within x.weak x.loss h);
+    }
 
 -- an open block that has no record yet is worse than none
 worse_than_empty : (worst : Covered) → worse_of worst (block_of []) ≡ worst
-unfolding block_of member_losses highest without
-worse_than_empty worst = sym (check_nlt _ _ worst.cover 0 zero-le refl)
+worse_than_empty worst = rw (← block_of_none) (sym (check_nlt _ _ worst.cover 0 zero-le refl))
 
 -- a record of the open block, and one that is not of it: the blocks from here on
-module _ (before : Option Before) (s : List ℕ) (worst : Covered) (rest : List StressLoss) where
-  on_same : (xs : List StressLoss) → Follows xs before → same_block before s ≡ true → blocks_from xs (loss_record s ∷ rest) ≡ blocks_from (loss_record s ∷ xs) rest
-  unfolding blocks_from
-  on_same xs f e = go xs before f e
-    where
-      go : (xs : List StressLoss) (before : Option Before) → Follows xs before → same_block before s ≡ true
-          → blocks_from xs (loss_record s ∷ rest) ≡ blocks_from (loss_record s ∷ xs) rest
-      go [] before f e = sym (check-true _ _ true refl refl)
-      go (latest ∷ earlier) None f e = absurd f
-      go (latest ∷ earlier) (Some b) f e = sym (check-true _ _ _ (rw (f.0, f.1) at e) refl)
+module _ (s : List ℕ) (worst : Covered) (rest : List StressLoss) where
+  on_same : (xs : List StressLoss) (before : Option Before) → Follows xs before → same_block before s ≡ true
+      → blocks_from xs (loss_record s ∷ rest) ≡ blocks_from (loss_record s ∷ xs) rest
+  unfolding check blocks_from
+  on_same [] before f e = refl
+  on_same (latest ∷ earlier) None f e = absurd f
+  on_same (latest ∷ earlier) (Some b) f e = grind (arith, nat_tests)
 
-  on_other : (xs : List StressLoss) → Follows xs before → same_block before s ≡ false
+  on_other : (xs : List StressLoss) (before : Option Before) → Follows xs before → same_block before s ≡ false
       → worst_of worst (blocks_from xs (loss_record s ∷ rest)) ≡ worst_of (worse_of worst (block_of xs)) (blocks_from (loss_record s ∷ []) rest)
-  unfolding blocks_from worst_of
-  on_other xs f e = go xs before f e
-    where
-      go : (xs : List StressLoss) (before : Option Before) → Follows xs before → same_block before s ≡ false
-          → worst_of worst (blocks_from xs (loss_record s ∷ rest)) ≡ worst_of (worse_of worst (block_of xs)) (blocks_from (loss_record s ∷ []) rest)
-      go [] before f e =
-          ap (worst_of worst) (sym (check-true _ _ true refl refl))
-          ∙ ap (λ (w : Covered). worst_of w (blocks_from (loss_record s ∷ []) rest)) (sym (worse_than_empty worst))
-      go (latest ∷ earlier) None f e = absurd f
-      go (latest ∷ earlier) (Some b) f e = ap (worst_of worst) (sym (check-false _ _ _ (rw (f.0, f.1) at e) refl))
-
-empty_top : (block_of []).top ≤ amount_limit
-unfolding block_of member_losses highest
-empty_top = zero-le
-
-empty_second : (block_of []).second ≤ amount_limit
-unfolding block_of member_losses highest without
-empty_second = zero-le
-
-empty_flagged : (block_of []).flagged ≤ amount_limit * 0
-unfolding block_of flagged_sum
-empty_flagged = zero-le
-
-pub slight_none : Slight (block_of [])
-slight_none = record { top_most = empty_top; second_most = empty_second; flagged_most = le_trans empty_flagged zero-le }
+  unfolding check blocks_from worst_of
+  on_other [] before f e = rw worse_than_empty refl
+  on_other (latest ∷ earlier) None f e = absurd f
+  on_other (latest ∷ earlier) (Some b) f e = grind (arith, nat_tests)
 
 -- the next record
 module _ (sheet : List ℕ) (i : ℕ) (before : Option Before) (block : Block) (worst : Covered) (pass : Pass sheet i before block worst) where
@@ -191,33 +167,20 @@ module _ (sheet : List ℕ) (i : ℕ) (before : Option Before) (block : Block) (
         amount_most = omega (arith, in_order.loss_most, ap (λ (l : Loss). l.amount) accepted.1)
 
         -- the record joins the block of the records xs, which has so many flags before it
-        passes : (xs : List StressLoss) (flags : ℕ) {opened joined : Block} {ended : Covered} → opened ≡ block_of xs → opened.top ≤ amount_limit
-            → opened.flagged ≤ amount_limit * flags → flags_before before here ≡ flags → joined ≡ block_of (loss_record here ∷ xs)
-            → worst_of ended (blocks_from (loss_record here ∷ xs) rest) ≡ worst_of nothing (blocks_of (records_of sheet))
+        passes : (xs : List StressLoss) (flags : ℕ) {joined : Block} {ended : Covered} → Within flags (block_of xs) → flags_before before here ≡ flags
+            → joined ≡ block_of (loss_record here ∷ xs) → worst_of ended (blocks_from (loss_record here ∷ xs) rest) ≡ worst_of nothing (blocks_of (records_of sheet))
             → Pass sheet (i + 1) (Some loss.next) joined ended
-        passes xs flags {opened} {joined} {ended} o t f n j w =
+        passes xs flags w n j e =
             rw (← ap (λ (l : Loss). l.next) accepted.1)
             (record {
               left_to_refuse = ap (λ (x : Option Fault). at_record (i + 1) x rest_refusal) (sym accepted.0) ∙ refusal_is;
               records = loss_record here ∷ xs;
               block_is = j;
               follows = (refl, refl);
-              whole = w;
+              whole = e;
               flags_most = in_order.flags_most;
-              top_most = top;
-              second_most = omega (arith, joined_second xs (loss_record here) j, top);
-              flagged_most =
-                  omega (
-                    arith,
-                    n,
-                    joined_flagged xs (loss_record here) j,
-                    ap (λ (v : Block). v.flagged) o,
-                    flagged-within (weak_at here) (loss_at here) in_order.loss_most,
-                  );
+              within = rw (j, n) (joined_within flags xs (loss_record here) w in_order.loss_most);
             })
-          where
-            top : joined.top ≤ amount_limit
-            top = omega (arith, joined_top xs (loss_record here) j, ap (λ (v : Block). v.top) o, in_order.loss_most)
 
         abbrev Joins : Block → Block → Type 0
         Joins opened joined =
@@ -232,8 +195,8 @@ module _ (sheet : List ℕ) (i : ℕ) (before : Option Before) (block : Block) (
         pub goes_on_same : {joined : Block} {same : Bool} → same ≡ same_block before (get_or records i []) → same ≡ true → Joins block joined
             → Pass sheet (i + 1) (Some loss.next) joined worst
         goes_on_same {joined} q t j =
-            passes pass.records (flags_of before) {opened = block} pass.block_is pass.top_most pass.flagged_most (flags_same before s) (join pass.records j pass.block_is)
-            (sym (ap (worst_of worst) (ap (blocks_from pass.records) rest_is ∙ on_same before here worst rest pass.records pass.follows s)) ∙ pass.whole)
+            passes pass.records (flags_of before) (rw pass.block_is at pass.within) (flags_same before s) (join pass.records j pass.block_is)
+            (sym (ap (worst_of worst) (ap (blocks_from pass.records) rest_is ∙ on_same here worst rest pass.records before pass.follows s)) ∙ pass.whole)
           where
             s : same_block before here ≡ true
             s = same_here q t
@@ -245,9 +208,9 @@ module _ (sheet : List ℕ) (i : ℕ) (before : Option Before) (block : Block) (
         pub goes_on_other : {opened joined : Block} {ended : Covered} {same : Bool} → same ≡ same_block before (get_or records i []) → same ≡ false → opened ≡ block_of []
             → ended ≡ worse_of worst block → Joins opened joined → Pass sheet (i + 1) (Some loss.next) joined ended
         goes_on_other {opened} {joined} q t o w j =
-            passes [] 0 {opened = opened} o (rw o empty_top) (rw o empty_flagged) (flags_other before s) (join [] j o)
+            passes [] 0 none_within (flags_other before s) (join [] j o)
             (rw (w, pass.block_is)
-            (sym (ap (λ (rs : List StressLoss). worst_of worst (blocks_from pass.records rs)) rest_is ∙ on_other before here worst rest pass.records pass.follows s) ∙ pass.whole))
+            (sym (ap (λ (rs : List StressLoss). worst_of worst (blocks_from pass.records rs)) rest_is ∙ on_other here worst rest pass.records before pass.follows s) ∙ pass.whole))
           where
             s : same_block before here ≡ false
             s = same_here q t

@@ -2,8 +2,7 @@
 use Prim.Native.Nat.{ℕ, ◌≤◌, ◌<◌}
 use mathlib.Core.Path.{◌≡◌, refl, sym, ap, ◌∙◌}
 use mathlib.Core.Bool.{Bool, true, false, ◌||◌, ◌&&◌, true≢false, false≢true, or_assoc}
-use borrow.Author.Tests.{lt-ltb, le-ltb, le-leb, lt-leb, eq-eqb, ne_eqb, ltb-false}
-use native.Mathlib.Omega.{arith}
+use borrow.Author.Tests.{lt-ltb, le-ltb, le-leb, lt-leb, eq-eqb, ne_eqb}
 use lib.Dec.{eqb, ltb, leb}
 use Rattle.lists.specs.Checks.{check}
 
@@ -74,10 +73,6 @@ neither false b e = (refl, e)
 pub and_right : (a b : Bool) → a ≡ true → (a && b) ≡ false → b ≡ false
 and_right true b p e = e
 and_right false b p e = absurd (false≢true p)
-
--- a refusal that is not above 0 is none
-pub no-refusal : (n : ℕ) → ltb 0 n ≡ false → n ≡ 0
-no-refusal n e = omega (arith, ltb-false 0 n e)
 
 -- where two tests hold together, each does
 pub both : (a b : Bool) → (a && b) ≡ true → (a ≡ true) × (b ≡ true)

@@ -3,8 +3,6 @@
 // Money is whole thousands of rupees.
 #![tactic(auto)]
 
-pub mod numbers;
-
 // "Members are numbered 1 to 64."
 pub const MEMBER_LIMIT: usize = 64;
 

@@ -27,6 +27,7 @@ struct Division {
     rest: u64,
     charges: [u32; 64],
     total: u64,
+    // A second answer: the charges are right either way.
     over: bool,
 }
 

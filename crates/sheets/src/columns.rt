@@ -11,6 +11,7 @@ use refusal::{Refusal, located};
 use std::marker::Model;
 
 // A member sheet by member number, member 1 first; 0 where the sheet has no such member. Every amount is at most 400,000,000.
+// A list for each column, and not one list of structs: a column is shared over, added up and put into a register as a whole.
 #[derive(Clone, Copy)]
 pub struct Columns {
     pub present: [bool; 64],

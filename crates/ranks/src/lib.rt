@@ -112,11 +112,8 @@ impl Ranked<'_> {
     {
         let ranks = self.ranks;
         for (i, &rank) in ranks.iter().enumerate() {
-            charges[i] += if chosen(rank) {
-                u64::from(self.weights[i])
-            } else {
-                0
-            };
+            let weight = u64::from(self.weights[i]);
+            charges[i] += if chosen(rank) { weight } else { 0 };
         }
     }
 

@@ -21,7 +21,7 @@ loop-i-preserved g c =
       (λ test h.
           let x : c.if-chosen.charges ≡ cond (test (get_or s.ranks.now l.i 0)) (get_or s.weights.now l.i 0) 0 =
           rw (← h _ _ c.chosen.ensures)
-          (elim c.if-chosen.branch [ then-chosen w ↦ rw w.if-chosen.true (w.charges-is ∙ w.from.ensures) | else-chosen w ↦ rw w.if-chosen.false w.charges-is ]) in
+          (elim c.if-chosen.branch [ then-chosen w ↦ rw w.if-chosen.true (w.charges-is ∙ c.from-weight.ensures) | else-chosen w ↦ rw w.if-chosen.false w.charges-is ]) in
           add_turn test s.ranks.now s.weights.now l.charges (plus (chosen_by test s.weights.now s.ranks.now) c.args.charges.now) l.i c.if-chosen.charges (get_or l.charges l.i 0 + c.if-chosen.charges) (omega (arith, s.as_many)) (omega (arith, s.long)) (omega arith) x refl (l.invariant.3 test h)),
     )
 

@@ -1,0 +1,1 @@
+-- No definition is needed here.

@@ -1,0 +1,94 @@
+// A text of bounded length, to which bytes and numbers are put one behind the other.
+#![tactic(auto)]
+
+ghost use Rattle.std.specs.Prelude.{◌≡◌, ℕ, ◌+◌, ◌≤◌, ◌==◌, List, [], ◌++◌, length, take};
+ghost use Rattle.numbers.specs.Numbers.{decimal_of, labelled};
+
+use itoa::Buffer;
+use std::marker::Model;
+
+/// A text of at most `N` bytes. A clause sees the bytes put so far.
+#[derive(Drop)]
+pub struct Text<const N: usize> {
+    bytes: [u8; N],
+    len: usize,
+}
+
+impl<const N: usize> Model for Text<N> {
+    ghost Value = { List ℕ };
+
+    ghost view = { λ t. take t.len t.bytes };
+
+    ghost invariant = { λ t. t.len ≤ N };
+}
+
+impl<const N: usize> Text<N> {
+    /// An empty text.
+    pub fn new() -> Self
+        ensures { result ≡ [] }
+    {
+        Text {
+            bytes: [0; N],
+            len: 0,
+        }
+    }
+
+    /// How many bytes were put.
+    pub fn len(&self) -> usize
+        ensures bytes { result ≡ length self.now }
+        ensures fits { result ≤ N }
+    {
+        self.len
+    }
+
+    /// Whether nothing was put.
+    pub fn is_empty(&self) -> bool
+        ensures { result ≡ (length self.now == 0) }
+    {
+        self.len == 0
+    }
+
+    /// The bytes that were put.
+    pub fn as_bytes(&self) -> &[u8]
+        ensures { result.now ≡ self.now }
+    {
+        &self.bytes[..self.len]
+    }
+
+    /// Starts again with nothing.
+    pub fn clear(&mut self)
+        ensures { self.new ≡ [] }
+    {
+        self.len = 0;
+    }
+
+    /// Puts bytes behind the others.
+    pub fn put(&mut self, text: &[u8])
+        requires { length self.old + length text.now ≤ N }
+        ensures { self.new ≡ self.old ++ text.now }
+    {
+        let end = self.len + text.len();
+        let bytes = &mut self.bytes[..];
+        bytes[self.len..end].copy_from_slice(text);
+        self.len = end;
+    }
+
+    /// Puts the digits of a number.
+    #[tactic(auto, using(crate::proofs::Digits::decimal_printed))]
+    pub fn put_number(&mut self, n: u64)
+        requires { length self.old + 20 ≤ N }
+        ensures { self.new ≡ self.old ++ decimal_of n }
+    {
+        self.put(Buffer::new().format(n).as_bytes());
+    }
+
+    /// Puts a label and a number behind it.
+    #[tactic(auto, unfolding(numbers::specs::Numbers::labelled))]
+    pub fn put_labelled(&mut self, label: &[u8], n: u64)
+        requires { length self.old + length label.now + 20 ≤ N }
+        ensures { self.new ≡ self.old ++ labelled label.now n }
+    {
+        self.put(label);
+        self.put_number(n);
+    }
+}

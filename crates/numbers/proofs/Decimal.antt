@@ -7,13 +7,11 @@ use native.Mathlib.Omega.{arith}
 use native.Mathlib.Nat.{div-lt_iff_lt-mul, pow-suc}
 use borrow.Author.Tests.{lt-ltb, ltb-true, ltb-false, le-leb}
 use lib.Dec.{ltb, lit<}
-use lib.ListN.{length, set, length-append}
+use lib.ListN.{length, length-append}
 use Rattle.lists.specs.Checks.{check}
 use Rattle.lists.proofs.Checks.{check-lt, check_nlt, check_by}
 use Rattle.numbers.specs.Numbers.{digits_of, decimal_of, value_from, all_digits, is_digit, is_empty, read_of}
-use Rattle.buffers.specs.Buffer.{written}
 use Rattle.numbers.specs.declared.Number.TheVariants.{Value}
-use Rattle.buffers.proofs.Written.{written_one, written-length, written_more}
 
 pub some-append : (s : List ℕ) (b : ℕ) → is_empty (s ++ (b ∷ [])) ≡ false
 some-append [] b = refl
@@ -117,20 +115,3 @@ pub read_printed : (n : ℕ) → n < 2 ^ 64 → read_of (decimal_of n) ≡ Value
 unfolding decimal_of
 read_printed n h =
     read_as (digits_of 20 n) n (digits-some 19 n) (digits_all 20 n) (digits_value 20 n (omega arith)) h
-
--- one digit written
-module _ (out : List ℕ) (at n : ℕ) (room : at + 20 ≤ length out) where
-  pub print_small : n < 10 → (at + 1 ≡ at + length (decimal_of n)) × (set out at (48 + n) ≡ written out at (decimal_of n))
-  print_small h = rw (decimal_small n h) (refl, written_one out at (48 + n) (omega arith))
-
-  module _ (h : 10 ≤ n) (k : n < 2 ^ 64) where
-    -- the last digit behind the others
-    pub longer : length (decimal_of n) ≡ length (decimal_of (n / 10)) + 1
-    longer = ap length (decimal_large n h k) ∙ length-append (decimal_of (n / 10)) ((48 + n % 10) ∷ [])
-
-    pub print-last : (mid : List ℕ) (next : ℕ) → mid ≡ written out at (decimal_of (n / 10)) → next ≡ at + length (decimal_of (n / 10)) → set mid next (48 + n % 10) ≡ written out at (decimal_of n)
-    print-last mid next e f =
-        let fits : at + length (decimal_of (n / 10)) ≤ length out = omega (arith, longer, decimal-length n) in
-        rw (e, f, decimal_large n h k)
-        (written_one _ _ (48 + n % 10) (rw (written-length out at (decimal_of (n / 10)) fits) (omega (arith, longer, decimal-length n)))
-        ∙ written_more out at (decimal_of (n / 10)) fits ((48 + n % 10) ∷ []))

@@ -1,11 +1,8 @@
-// Decimal numbers, read and printed, with a text before them.
+// Decimal numbers, read.
 #![tactic(auto)]
 
-ghost use Rattle.std.specs.Prelude.{◌≡◌, ◌++◌, ◌+◌, ◌≤◌, length};
-ghost use Rattle.buffers.specs.Buffer.{written};
-ghost use Rattle.numbers.specs.Numbers.{decimal_of, read_of, labelled};
-
-use buffers::put_text;
+ghost use Rattle.std.specs.Prelude.{◌≡◌};
+ghost use Rattle.numbers.specs.Numbers.{read_of};
 
 #[derive(Clone, Copy)]
 pub enum Number {
@@ -14,12 +11,6 @@ pub enum Number {
 }
 
 pub fn wide(x: u8) -> u64
-    ensures { result ≡ x }
-{
-    x as u64
-}
-
-pub fn as_number(x: usize) -> u64
     ensures { result ≡ x }
 {
     x as u64
@@ -54,39 +45,4 @@ pub fn read_number(word: &[u8]) -> Number
         i += 1;
     }
     Number::Value(value)
-}
-
-// The digits of n at the place `at` of the buffer. Answers the place after them.
-pub fn print_number(n: u64, out: &mut [u8], at: usize) -> usize
-    requires { at + 20 ≤ length out.old }
-    ensures value { (result ≡ at + length (decimal_of n)) × (out.new ≡ written out.old at (decimal_of n)) }
-    ensures upper_bound { result ≤ at + 20 }
-{
-    if n < 10 {
-        out[at] = 48 + n as u8;
-        return at + 1;
-    }
-    let next = print_number(n / 10, out, at);
-    out[next] = 48 + (n % 10) as u8;
-    next + 1
-}
-
-// A text and a number behind it, at the place `at` of the buffer. Answers the place after them.
-pub fn put_labelled(out: &mut [u8], at: usize, label: &[u8], n: u64) -> usize
-    requires { at + length label.now + 20 ≤ length out.old }
-    ensures value { (result ≡ at + length (labelled label.now n)) × (out.new ≡ written out.old at (labelled label.now n)) }
-    ensures upper_bound { result ≤ at + length label.now + 20 }
-{
-    let next = put_text(out, at, label);
-    print_number(n, out, next)
-}
-
-// Two texts with a number behind each.
-pub fn put_two(out: &mut [u8], at: usize, one: &[u8], a: u64, two: &[u8], b: u64) -> usize
-    requires { at + length one.now + length two.now + 40 ≤ length out.old }
-    ensures value { (result ≡ at + length (labelled one.now a ++ labelled two.now b)) × (out.new ≡ written out.old at (labelled one.now a ++ labelled two.now b)) }
-    ensures upper_bound { result ≤ at + length one.now + length two.now + 40 }
-{
-    let next = put_labelled(out, at, one, a);
-    put_labelled(out, next, two, b)
 }

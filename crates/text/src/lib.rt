@@ -1,7 +1,7 @@
 // A text of bounded length, to which bytes and numbers are put one behind the other.
 #![tactic(auto)]
 
-ghost use Rattle.std.specs.Prelude.{◌≡◌, ℕ, ◌+◌, ◌≤◌, ◌==◌, List, [], ◌++◌, length, take};
+ghost use Rattle.std.specs.Prelude.{◌≡◌, ℕ, ◌+◌, ◌<◌, ◌≤◌, ◌==◌, List, [], ◌∷◌, ◌++◌, length, take};
 ghost use Rattle.numbers.specs.Numbers.{decimal_of, labelled};
 
 use itoa::Buffer;
@@ -60,6 +60,15 @@ impl<const N: usize> Text<N> {
         ensures { self.new ≡ [] }
     {
         self.len = 0;
+    }
+
+    /// Puts one byte behind the others.
+    pub fn push(&mut self, byte: u8)
+        requires { length self.old < N }
+        ensures { self.new ≡ self.old ++ byte ∷ [] }
+    {
+        self.bytes[self.len] = byte;
+        self.len += 1;
     }
 
     /// Puts bytes behind the others.

@@ -1,42 +1,42 @@
--- Laws of the words of a line: the word at a place is the first of those from there on.
-use Prim.Native.Nat.{ℕ, suc, ◌+◌, ◌-◌, ◌≤◌, ◌<◌, min}
-use mathlib.Core.Path.{◌≡◌, refl, sym, ap, ◌∙◌}
-use mathlib.Core.Bool.{Bool, true, false, not, ◌||◌}
-use mathlib.Core.List.{List, [], ◌∷◌}
-use native.Mathlib.Omega.{arith}
-use borrow.Author.Tests.{eq-eqb, ne_eqb, eqb-true}
-use lib.Dec.{eqb}
-use lib.ListN.{length, take, drop, drop_of_length-le}
-use lib.Seq.{drop-drop}
+-- Laws of the words of a line: its first word, and those behind it.
+use Rattle.std.proofs.Common.{ℕ, suc, ◌+◌, ◌≤◌, ◌<◌, ◌≡◌, ◌≢◌, refl, sym, ap, ◌∙◌, Bool, true, false, not, ◌||◌, cond, List, [], ◌∷◌, length, take, drop, ◌==◌, arith}
+use lib.Seq.{length-take-le}
+use Rattle.std.specs.List.{prefix_len, onto_first}
+use borrow.Author.Tests.{eqb-true}
 use Rattle.lists.specs.Checks.{check}
-use Rattle.words.specs.Bytes.{run, part}
-use Rattle.words.specs.Words.{is_space, in_word}
-use Rattle.words.specs.Parts.{word_of}
-use Rattle.words.specs.declared.Word.{Word}
-use Rattle.lists.proofs.Cases.{never, by_le}
-use Rattle.words.specs.Words.{first_of, rest_of, no_word, goes_on, words_of}
+use Rattle.lists.proofs.Cases.{never}
+use Rattle.words.specs.Words.{is_space, in_word, goes_on, words_of}
+
+pub prefix_within : (p : ℕ → Bool) (s : List ℕ) → prefix_len p s ≤ length s
+prefix_within p [] = omega arith
+prefix_within p (b ∷ s) = grind (arith, prefix_within p s)
+
+drop_one : {X : Type 0} (n : ℕ) (x : X) (s : List X) → drop (1 + n) (x ∷ s) ≡ drop n s
+drop_one n x s = let e : 1 + n ≡ suc n = omega arith in rw e refl
+
+take_one : {X : Type 0} (n : ℕ) (x : X) (s : List X) → take (1 + n) (x ∷ s) ≡ x ∷ take n s
+take_one n x s = let e : 1 + n ≡ suc n = omega arith in rw e refl
 
 -- spaces in front part nothing
-skip : (s : List ℕ) → words_of s ≡ words_of (drop (run is_space s) s)
+words_behind : (s : List ℕ) → words_of s ≡ words_of (drop (prefix_len is_space s) s)
 unfolding words_of check
-skip [] = refl
-skip (b ∷ s) = go (eqb b 32) refl (skip s)
+words_behind [] = refl
+words_behind (b ∷ s) = go (b == 32) refl (words_behind s)
   where
-    go : (x : Bool) → eqb b 32 ≡ x → words_of s ≡ words_of (drop (run is_space s) s) → words_of (b ∷ s) ≡ words_of (drop (check x (suc (run is_space s)) 0) (b ∷ s))
-    go true e ih = rw (eqb-true b 32 e) ih
+    go : (x : Bool) → (b == 32) ≡ x → words_of s ≡ words_of (drop (prefix_len is_space s) s) → words_of (b ∷ s) ≡ words_of (drop (cond x (1 + prefix_len is_space s) 0) (b ∷ s))
+    go true e ih = rw (eqb-true b 32 e, drop_one) ih
     go false e ih = refl
 
 abbrev in_front : List ℕ → Bool
 in_front [] = false
-in_front (b ∷ s) = eqb b 32
+in_front (b ∷ s) = b == 32
 
-none_in_front : (s : List ℕ) → in_front (drop (run is_space s) s) ≡ false
-unfolding check
+none_in_front : (s : List ℕ) → in_front (drop (prefix_len is_space s) s) ≡ false
 none_in_front [] = refl
-none_in_front (b ∷ s) = go (eqb b 32) refl (none_in_front s)
+none_in_front (b ∷ s) = go (b == 32) refl (none_in_front s)
   where
-    go : (x : Bool) → eqb b 32 ≡ x → in_front (drop (run is_space s) s) ≡ false → in_front (drop (check x (suc (run is_space s)) 0) (b ∷ s)) ≡ false
-    go true e ih = ih
+    go : (x : Bool) → (b == 32) ≡ x → in_front (drop (prefix_len is_space s) s) ≡ false → in_front (drop (cond x (1 + prefix_len is_space s) 0) (b ∷ s)) ≡ false
+    go true e ih = rw drop_one ih
     go false e ih = e
 
 neither : (x y : Bool) → not (x || y) ≡ true → x ≡ false
@@ -45,98 +45,46 @@ neither false y h = refl
 
 goes : (s : List ℕ) → goes_on s ≡ true → in_front s ≡ false
 goes [] h = refl
-goes (b ∷ s) h = neither (eqb b 32) (eqb b 35) h
+goes (b ∷ s) h = neither (b == 32) (b == 35) h
 
-stops : (s : List ℕ) → goes_on s ≡ false → run in_word s ≡ 0
-unfolding check
+starts : (s : List ℕ) → goes_on s ≡ true → 0 < prefix_len in_word s
+starts [] h = never h
+starts (b ∷ s) h = rw h (omega arith)
+
+stops : (s : List ℕ) → goes_on s ≡ false → prefix_len in_word s ≡ 0
 stops [] h = refl
-stops (b ∷ s) h = rw h
+stops (b ∷ s) h = rw h refl
 
--- the first word, the others, and whether there is one, of what does not begin with a space
-abbrev Found : List ℕ → Type 0
-Found s =
-    (first_of (words_of s) ≡ take (run in_word s) s)
-    × (rest_of (words_of s) ≡ words_of (drop (run in_word s) s))
-    × (no_word (words_of s) ≡ eqb (run in_word s) 0)
+-- the first word and those behind it, of what does not begin with a space
+abbrev Found : List ℕ → ℕ → Type 0
+Found s n = (n ≡ 0 → words_of s ≡ []) × (0 < n → words_of s ≡ take n s ∷ words_of (drop n s))
 
-found : (s : List ℕ) → in_front s ≡ false → Found s
+found : (s : List ℕ) → in_front s ≡ false → Found s (prefix_len in_word s)
 unfolding words_of check
-found [] h = (refl, refl, refl)
-found (b ∷ s) h = go (eqb b 35) refl (goes_on s) refl (found s)
+found [] h = (λ _. refl, λ l. absurd (omega arith))
+found (b ∷ s) h = go (b == 35) refl (goes_on s) refl (found s)
   where
-    go : (x : Bool) → eqb b 35 ≡ x → (z : Bool) → goes_on s ≡ z → (in_front s ≡ false → Found s) → Found (b ∷ s)
-    go true e z g f = rw (e, h) (refl, rw e, refl)
-    go false e true g f =
-        let ih : Found s = f (goes s g) in
-        rw (e, h, g) (ap (λ (t : List ℕ). b ∷ t) ih.0, ih.1, sym (ne_eqb (suc (run in_word s)) 0 (λ k. omega arith)))
-    go false e false g f = rw (e, h, g, stops s g) (refl, refl, refl)
+    go : (x : Bool) → (b == 35) ≡ x → (z : Bool) → goes_on s ≡ z → (in_front s ≡ false → Found s (prefix_len in_word s)) → Found (b ∷ s) (prefix_len in_word (b ∷ s))
+    go true e z g f = rw (e, h) (λ _. refl, λ l. absurd (omega arith))
+    go false e true g f = rw (e, h, g, take_one, drop_one) (λ l. absurd (omega arith), λ _. ap (onto_first b) ((f (goes s g)).1 (starts s g)))
+    go false e false g f = rw (e, h, g, stops s g) (λ l. absurd (omega arith), λ _. refl)
 
--- no width, no word
-none_wide : (a b m : ℕ) → b ≡ a + m → eqb m 0 ≡ eqb a b
-none_wide a b m e =
-    by_le m 0
-    (λ h. eq-eqb m 0 (omega arith) ∙ sym (eq-eqb a b (omega arith)))
-    (λ h. ne_eqb m 0 (λ k. omega arith) ∙ sym (ne_eqb a b (λ k. omega arith)))
+-- the words of a line, by what stands behind the spaces in front of it
+module _ (line s word rest : List ℕ) (e : s ≡ drop (prefix_len is_space line) line) (f : word ≡ take (prefix_len in_word s) s) (g : rest ≡ drop (prefix_len in_word s) s) where
+  here : Found s (prefix_len in_word s)
+  here = found s (ap in_front e ∙ none_in_front line)
 
-module _ (line : List ℕ) (from : ℕ) (w : Word) (e : w ≡ word_of line from) where
-  abbrev at : ℕ
-  at = min from (length line)
+  same : words_of line ≡ words_of s
+  same = words_behind line ∙ sym (ap words_of e)
 
-  clamp : drop at line ≡ drop from line
-  clamp =
-      by_le from (length line)
-      (λ h. let g : at ≡ from = omega arith in rw g)
-      (λ h. let g : at ≡ length line = omega arith in
-      let k : length line ≤ from = omega arith in
-      let l : length line ≤ length line = omega arith in
-      rw g (drop_of_length-le line l ∙ sym (drop_of_length-le line k)))
+  long : length word ≡ prefix_len in_word s
+  long = ap length f ∙ length-take-le (prefix_len in_word s) s (prefix_within in_word s)
 
-  place : w.start ≡ at + run is_space (drop at line)
-  unfolding word_of
-  place = ap (λ (x : Word). x.start) e
+  pub no_word : length word ≡ 0 → (words_of line ≡ []) × (words_of rest ≡ [])
+  no_word h =
+      let z : prefix_len in_word s ≡ 0 = omega (arith, long) in
+      let n : words_of line ≡ [] = same ∙ here.0 z in
+      (n, ap words_of (g ∙ ap (λ k. drop k s) z) ∙ here.0 z)
 
-  width : w.end ≡ w.start + run in_word (drop w.start line)
-  unfolding word_of
-  width =
-      ap (λ (x : Word). x.end) e
-      ∙ ap (λ (i : ℕ). i + run in_word (drop i line)) (sym place)
-
-  rest : drop w.start line ≡ drop (run is_space (drop from line)) (drop from line)
-  rest =
-      ap (λ (i : ℕ). drop i line) place
-      ∙ sym (drop-drop (run is_space (drop at line)) at line)
-      ∙ ap (λ (s : List ℕ). drop (run is_space s) s) clamp
-
-  here : Found (drop w.start line)
-  here = rw rest (found (drop (run is_space (drop from line)) (drop from line)) (none_in_front (drop from line)))
-
-  same-words : words_of (drop from line) ≡ words_of (drop w.start line)
-  same-words = skip (drop from line) ∙ sym (ap words_of rest)
-
-  pub first_word : first_of (words_of (drop from line)) ≡ part line w.start w.end
-  unfolding part
-  first_word =
-      let g : run in_word (drop w.start line) ≡ w.end - w.start = omega (arith, width) in
-      ap first_of same-words ∙ here.0 ∙ ap (λ (k : ℕ). take k (drop w.start line)) g
-
-  pub rest-words : rest_of (words_of (drop from line)) ≡ words_of (drop w.end line)
-  rest-words =
-      ap rest_of same-words
-      ∙ here.1
-      ∙ ap words_of (drop-drop (run in_word (drop w.start line)) w.start line ∙ ap (λ (i : ℕ). drop i line) (sym width))
-
-  pub no-word : no_word (words_of (drop from line)) ≡ eqb w.start w.end
-  no-word = ap no_word same-words ∙ here.2 ∙ none_wide w.start w.end _ width
-
-  -- a word ends behind the place
-  pub word_ends : (w.start ≡ w.end → ⊥) → w.start ≤ w.end → w.end ≤ length line → from < w.end
-  word_ends h k l = omega (arith, place)
-
--- words one behind the other
-pub some_words : (ws : List (List ℕ)) → no_word ws ≡ false → ws ≡ first_of ws ∷ rest_of ws
-some_words [] h = never (sym h)
-some_words (w ∷ ws) h = refl
-
-pub no_words : (ws : List (List ℕ)) → no_word ws ≡ true → ws ≡ []
-no_words [] h = refl
-no_words (w ∷ ws) h = never h
+  pub next_word : length word ≢ 0 → words_of line ≡ word ∷ words_of rest
+  next_word h = rw (f, g) (same ∙ here.1 (omega (arith, long)))

@@ -1,27 +1,15 @@
 -- "Words are parted by one or more spaces." "`#` starts a comment that runs to the end of its line"
-use Rattle.std.specs.Prelude.{ℕ, ◌≡◌, refl, Bool, true, false, not, ◌||◌, List, [], ◌∷◌, eqb}
+use Rattle.std.specs.Prelude.{ℕ, ◌≡◌, refl, Bool, false, not, ◌||◌, List, [], ◌∷◌, ◌==◌}
+use Rattle.std.specs.List.{onto_first}
 use Rattle.lists.specs.Checks.{check}
 use Rattle.lists.specs.Texts.{ascii}
 
 abbrev pub is_space : ℕ → Bool
-is_space b = eqb b 32
+is_space b = b == 32
 
 -- no space and no '#'
 abbrev pub in_word : ℕ → Bool
-in_word b = not (eqb b 32 || eqb b 35)
-
--- the first word, which is empty where there is none, and the others
-abbrev pub first_of : List (List ℕ) → List ℕ
-first_of [] = []
-first_of (w ∷ ws) = w
-
-abbrev pub rest_of : List (List ℕ) → List (List ℕ)
-rest_of [] = []
-rest_of (w ∷ ws) = ws
-
-abbrev pub no_word : List (List ℕ) → Bool
-no_word [] = true
-no_word (w ∷ ws) = false
+in_word b = not (b == 32 || b == 35)
 
 -- whether s goes on in a word
 abbrev pub goes_on : List ℕ → Bool
@@ -32,11 +20,15 @@ goes_on (b ∷ s) = in_word b
 unfoldable pub words_of : List ℕ → List (List ℕ)
 words_of [] = []
 words_of (b ∷ s) =
-    check (eqb b 35) []
-    (check (eqb b 32) (words_of s)
-    (check (goes_on s) ((b ∷ first_of (words_of s)) ∷ rest_of (words_of s))
+    check (b == 35) []
+    (check (b == 32) (words_of s)
+    (check (goes_on s) (onto_first b (words_of s))
     ((b ∷ []) ∷ words_of s)))
 
 two-words : words_of (ascii "a  bc #d") ≡ ascii "a" ∷ ascii "bc" ∷ []
 unfolding words_of check
 two-words = refl
+
+no-words : words_of (ascii "  # n") ≡ []
+unfolding words_of check
+no-words = refl

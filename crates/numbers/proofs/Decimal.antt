@@ -8,10 +8,10 @@ use native.Mathlib.Nat.{div-lt_iff_lt-mul, pow-suc}
 use borrow.Author.Tests.{lt-ltb, ltb-true, ltb-false, le-leb}
 use lib.Dec.{ltb, lit<}
 use lib.ListN.{length, length-append}
+use Rattle.std.specs.Prelude.{Some}
 use Rattle.lists.specs.Checks.{check}
 use Rattle.lists.proofs.Checks.{check-lt, check_nlt, check_by}
 use Rattle.numbers.specs.Numbers.{digits_of, decimal_of, value_from, all_digits, is_digit, is_empty, read_of}
-use Rattle.numbers.specs.declared.Number.TheVariants.{Value}
 
 pub some-append : (s : List ℕ) (b : ℕ) → is_empty (s ++ (b ∷ [])) ≡ false
 some-append [] b = refl
@@ -107,11 +107,11 @@ pub decimal_all : (n : ℕ) → all_digits (decimal_of n) ≡ true
 unfolding decimal_of
 decimal_all n = digits_all 20 n
 
-read_as : (s : List ℕ) (n : ℕ) → is_empty s ≡ false → all_digits s ≡ true → value_from 0 s ≡ n → n < 2 ^ 64 → read_of s ≡ Value n
+read_as : (s : List ℕ) (n : ℕ) → is_empty s ≡ false → all_digits s ≡ true → value_from 0 s ≡ n → n < 2 ^ 64 → read_of s ≡ Some n
 unfolding read_of check
 read_as s n p q v h = rw (p, q, v, lt-ltb n (2 ^ 64) h)
 
-pub read_printed : (n : ℕ) → n < 2 ^ 64 → read_of (decimal_of n) ≡ Value n
+pub read_printed : (n : ℕ) → n < 2 ^ 64 → read_of (decimal_of n) ≡ Some n
 unfolding decimal_of
 read_printed n h =
     read_as (digits_of 20 n) n (digits-some 19 n) (digits_all 20 n) (digits_value 20 n (omega arith)) h

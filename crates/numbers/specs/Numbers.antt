@@ -1,9 +1,7 @@
 -- "Numbers are decimal digits. A number that does not fit 64 bits is not a number."
-use Rattle.std.specs.Prelude.{ℕ, zero, suc, ◌+◌, ◌-◌, ◌*◌, ◌/◌, ◌%◌, ◌^◌, ◌≡◌, refl, Bool, true, false, not, ◌&&◌, List, [], ◌∷◌, ◌++◌, leb, ltb}
+use Rattle.std.specs.Prelude.{ℕ, zero, suc, ◌+◌, ◌-◌, ◌*◌, ◌/◌, ◌%◌, ◌^◌, ◌≡◌, refl, Bool, true, false, not, ◌&&◌, List, [], ◌∷◌, ◌++◌, leb, ltb, Option, Some, None}
 use Rattle.lists.specs.Checks.{check}
 use Rattle.lists.specs.Texts.{ascii}
-use Rattle.numbers.specs.declared.Number.{Number}
-use Rattle.numbers.specs.declared.Number.TheVariants.{Value, NotANumber}
 
 abbrev pub is_digit : ℕ → Bool
 is_digit b = leb 48 b && leb b 57
@@ -24,8 +22,8 @@ value_from v (b ∷ s) = value_from (v * 10 + (b - 48)) s
 abbrev pub is_number : List ℕ → Bool
 is_number s = not (is_empty s) && all_digits s && ltb (value_from 0 s) (2 ^ 64)
 
-unfoldable pub read_of : List ℕ → Number
-read_of s = check (is_number s) (Value (value_from 0 s)) NotANumber
+unfoldable pub read_of : List ℕ → Option ℕ
+read_of s = check (is_number s) (Some (value_from 0 s)) None
 
 -- the digits of n, with no zero in front; `most` bounds how many there are
 abbrev pub digits_of : ℕ → ℕ → List ℕ
@@ -48,10 +46,10 @@ ten_printed : decimal_of 10 ≡ ascii "10"
 unfolding decimal_of check
 ten_printed = refl
 
-seven-read : read_of (ascii "007") ≡ Value 7
+seven-read : read_of (ascii "007") ≡ Some 7
 unfolding read_of check
 seven-read = refl
 
-minus-read : read_of (ascii "-1") ≡ NotANumber
+minus-read : read_of (ascii "-1") ≡ None
 unfolding read_of check
 minus-read = refl

@@ -1,48 +1,32 @@
 // Decimal numbers, read.
 #![tactic(auto)]
 
-ghost use Rattle.std.specs.Prelude.{◌≡◌};
-ghost use Rattle.numbers.specs.Numbers.{read_of};
+ghost use Rattle.std.specs.Prelude.{◌≡◌, ◌-◌, IsTrue};
+ghost use Rattle.numbers.specs.Numbers.{is_digit, read_of};
+ghost use Rattle.std.specs.Option.{SomeIff};
 
-#[derive(Clone, Copy)]
-pub enum Number {
-    Value(u64),
-    NotANumber,
-}
-
-pub fn wide(x: u8) -> u64
-    ensures { result ≡ x }
+// The value of a digit.
+fn digit(byte: u8) -> Option<u8>
+    ensures { SomeIff result (IsTrue (is_digit byte)) (byte - 48) }
 {
-    x as u64
+    match byte {
+        b'0'..=b'9' => Some(byte - b'0'),
+        _ => None,
+    }
 }
 
-// The word as a number. It stops at the first byte that is no digit, and where the value does not fit any more.
+/// The word as a number, where it is digits and its value fits.
 #[tactic(auto, using(crate::proofs::Reading::reading))]
-pub fn read_number(word: &[u8]) -> Number
+pub fn read_number(word: &[u8]) -> Option<u64>
     ensures { result ≡ read_of word.now }
 {
-    if word.len() == 0 {
-        return Number::NotANumber;
+    if word.is_empty() {
+        return None;
     }
     let mut value: u64 = 0;
-    let mut i: usize = 0;
-    while i < word.len() {
-        let b = word[i];
-        if b < 48 {
-            return Number::NotANumber;
-        }
-        if 57 < b {
-            return Number::NotANumber;
-        }
-        let d = wide(b) - 48;
-        if 1844674407370955161 < value {
-            return Number::NotANumber;
-        }
-        if 18446744073709551615 - value * 10 < d {
-            return Number::NotANumber;
-        }
-        value = value * 10 + d;
-        i += 1;
+    for byte in word {
+        let digit = digit(*byte)?;
+        value = value.checked_mul(10)?.checked_add(u64::from(digit))?;
     }
-    Number::Value(value)
+    Some(value)
 }

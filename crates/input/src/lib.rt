@@ -1,161 +1,130 @@
-// The lines of a drill, taken one by one from standard input.
+// The lines of standard input, taken one by one.
 #![tactic(auto)]
 
-ghost use Rattle.std.specs.Prelude.{◌≡◌, ◌≤◌, length};
+ghost use Rattle.std.specs.Prelude.{◌≡◌, ◌==◌, ◌<◌, ◌≤◌, [], length};
+ghost use Rattle.std.specs.List.{position};
+ghost use Rattle.input.specs.Lines.{length_of, IsNext};
+ghost use Rattle.std.specs.Option.{IfSome};
 
-use lines::{Line, read_line};
 use std::io::{Eprint, Input, Read};
+use words::Unreadable;
 
-// How far the input is read: the chunk's bytes from `from` to `have` are still to be taken, `len` bytes of the line are there, and `line` is its number.
-#[derive(Clone, Copy)]
-pub struct Progress {
-    pub from: usize,
-    pub have: usize,
-    pub len: usize,
-    pub line: u64,
-    pub going: bool,
+/// A line may be so many bytes long. A longer one is unreadable as a whole.
+pub const LINE_LIMIT: usize = 4096;
+
+const ROOM: usize = 65536;
+
+/// How far an input is read.
+#[derive(Clone, Copy, Debug, PartialEq, Eq)]
+pub enum State {
+    Open,
+    Ended,
+    Failed,
 }
 
-// What the next line says, Blank where none has ended, and how far the input is read then.
-#[derive(Drop)]
-pub struct Taken {
-    pub says: Line,
-    pub progress: Progress,
-}
+impl State {
+    ghost use Rattle.input.specs.Rest.{has_ended};
 
-// No run reaches the largest number.
-fn next(line: u64) -> u64 {
-    if line < u64::MAX {
-        return line + 1;
-    }
-    line
-}
-
-// What a line says that has `len` bytes in the buffer and ends with the piece. A line that is not cut by a read is read where it stands.
-fn read(line: &mut [u8], len: usize, piece: &[u8], ranks: &mut [u8]) -> Line
-    requires { length ranks.old ≡ 256 }
-{
-    if (len == 0) & (piece.len() <= line.len()) {
-        return read_line(piece, ranks);
-    }
-    let whole = buffers::append(line, len, piece);
-    if line.len() < whole {
-        return Line::Unreadable;
-    }
-    read_line(words::part(line, 0, whole), ranks)
-}
-
-// Takes the chunk's bytes up to the next newline.
-fn take_piece(chunk: &[u8], line: &mut [u8], ranks: &mut [u8], p: Progress) -> Taken
-    requires { length ranks.old ≡ 256 }
-    ensures { result.progress.from ≤ result.progress.have }
-{
-    let from = p.from;
-    let have = p.have;
-    let to = words::find_newline(chunk, from, have);
-    let piece = words::part(chunk, from, to);
-    if have <= to {
-        let len = buffers::append(line, p.len, piece);
-        return Taken {
-            says: Line::Blank,
-            progress: Progress {
-                from: have,
-                have,
-                len,
-                line: p.line,
-                going: true,
-            },
-        };
-    }
-    let says = read(line, p.len, piece, ranks);
-    Taken {
-        says,
-        progress: Progress {
-            from: to + 1,
-            have,
-            len: 0,
-            line: next(p.line),
-            going: true,
-        },
-    }
-}
-
-// The input has ended. A last line may have no newline.
-fn end_input(line: &mut [u8], ranks: &mut [u8], p: Progress) -> Taken
-    requires { length ranks.old ≡ 256 }
-    ensures { result.progress.from ≤ result.progress.have }
-{
-    let progress = Progress {
-        from: 0,
-        have: 0,
-        len: 0,
-        line: p.line,
-        going: false,
-    };
-    let len = p.len;
-    if len == 0 {
-        return Taken {
-            says: Line::Blank,
-            progress,
-        };
-    }
-    let says = read(line, len, b"", ranks);
-    Taken { says, progress }
-}
-
-// One read into the chunk: how many bytes there are, none where the input has ended or cannot be read.
-fn read_some(rt: &(impl Input + Eprint), chunk: &mut [u8]) -> usize {
-    match rt.reader().read(chunk) {
-        Ok(n) => n,
-        Err(why) => {
-            let _ = eprintln!(rt; "standard input: {why}");
-            0
+    // Whether there is no more to read.
+    fn has_ended(self) -> bool
+        ensures { result ≡ has_ended self }
+    {
+        match self {
+            State::Open => false,
+            State::Ended | State::Failed => true,
         }
     }
 }
 
-// Reads what is there.
-fn read_chunk(
-    rt: &(impl Input + Eprint),
-    chunk: &mut [u8],
-    line: &mut [u8],
-    ranks: &mut [u8],
-    p: Progress,
-) -> Taken
-    requires { length ranks.old ≡ 256 }
-    ensures { result.progress.from ≤ result.progress.have }
+fn to_newline(bytes: &[u8]) -> Option<usize>
+    ensures value { result ≡ position (λ b. b == 10) bytes.now }
+    ensures within { IfSome result (λ n. n < length bytes.now) }
 {
-    let have = read_some(rt, chunk);
-    if have == 0 {
-        return end_input(line, ranks, p);
-    }
-    Taken {
-        says: Line::Blank,
-        progress: Progress {
-            from: 0,
-            have,
-            len: p.len,
-            line: p.line,
-            going: true,
-        },
+    bytes.iter().position(|b| *b == b'\n')
+}
+
+// How long the line is that the bytes begin with, where they have its end. A last line may have no newline.
+fn line_length(bytes: &[u8], ended: bool) -> Option<usize>
+    ensures value { result ≡ length_of ended bytes.now }
+    ensures within { IfSome result (λ n. n ≤ length bytes.now) }
+{
+    match to_newline(bytes) {
+        None if ended && !bytes.is_empty() => Some(bytes.len()),
+        found => found,
     }
 }
 
-// A line of the chunk, or another chunk. No more is taken of a chunk than it has.
-pub fn take(
-    rt: &(impl Input + Eprint),
-    chunk: &mut [u8],
-    line: &mut [u8],
-    ranks: &mut [u8],
-    p: Progress,
-) -> Taken
-    requires { length ranks.old ≡ 256 }
-    ensures { result.progress.from ≤ result.progress.have }
-{
-    let from = p.from;
-    let have = p.have;
-    if from < have {
-        return take_piece(chunk, line, ranks, p);
+/// The lines of an input: the bytes from `from` to `have` are read and still to be taken, and begin a line.
+#[derive(Drop)]
+pub struct Lines {
+    bytes: [u8; ROOM],
+    from: usize,
+    have: usize,
+    number: u64,
+    state: State,
+    ghost in_bytes: { (from ≤ have) × (have ≤ 65536) },
+}
+
+impl Lines {
+    ghost use Rattle.input.specs.Rest.{rest_of, has_ended};
+
+    /// An input of which nothing is read yet.
+    pub fn new() -> Self
+        ensures nothing_read { rest_of result ≡ [] }
+        ensures first_line { result.number ≡ 1 }
+    {
+        Lines {
+            bytes: [0; ROOM],
+            from: 0,
+            have: 0,
+            number: 1,
+            state: State::Open,
+        }
     }
-    read_chunk(rt, chunk, line, ranks, p)
+
+    /// The number of the line that is taken next, from 1 on.
+    pub fn number(&self) -> u64
+        ensures { result ≡ self.now.number }
+    {
+        self.number
+    }
+
+    /// How far the input is read.
+    pub fn state(&self) -> State
+        ensures { result ≡ self.now.state }
+    {
+        self.state
+    }
+
+    /// Takes the next line, where its end is there.
+    pub fn next(&mut self) -> Option<Result<&[u8], Unreadable>>
+        ensures { IsNext (length_of (has_ended self.old.state) (rest_of self.old)) (rest_of self.old) result }
+    {
+        let from = self.from;
+        let length = line_length(&self.bytes[from..self.have], self.state.has_ended())?;
+        self.from = self.have.min(from + length + 1);
+        self.number = self.number.saturating_add(1);
+        if LINE_LIMIT < length {
+            return Some(Err(Unreadable));
+        }
+        Some(Ok(&self.bytes[from..from + length]))
+    }
+
+    /// Reads on behind the bytes that are there. Of a line that is too long already, one byte more than it may have stands for the whole.
+    pub fn read_on(&mut self, rt: &(impl Input + Eprint))
+        ensures { self.new.number ≡ self.old.number }
+    {
+        let kept = (self.have - self.from).min(LINE_LIMIT + 1);
+        self.bytes.copy_within(self.from..self.from + kept, 0);
+        self.from = 0;
+        self.have = kept;
+        match rt.reader().read(&mut self.bytes[kept..]) {
+            Ok(0) => self.state = State::Ended,
+            Ok(n) => self.have += n,
+            Err(why) => {
+                let _ = eprintln!(rt; "standard input: {why}");
+                self.state = State::Failed;
+            }
+        }
+    }
 }

@@ -1,0 +1,14 @@
+-- What is read of an input.
+use Rattle.std.specs.Prelude.{ℕ, Bool, true, false, List}
+use Rattle.words.specs.Bytes.{part}
+use Rattle.input.specs.declared.State.{State}
+use Rattle.input.specs.declared.Lines.{Lines}
+
+-- the bytes that are read and not yet taken
+abbrev pub rest_of : Lines → List ℕ
+rest_of lines = part lines.bytes lines.from lines.have
+
+abbrev pub has_ended : State → Bool
+has_ended State.Open = false
+has_ended State.Ended = true
+has_ended State.Failed = true

@@ -1,4 +1,3 @@
 -- The laws that the proofs cite.
-pub mod Trimming
 pub mod Cutting
 pub mod Theorems

@@ -1,131 +1,143 @@
 // A line of a sheet: its content, its cells, and what a cell says.
 #![tactic(auto)]
 
-ghost use Rattle.std.specs.Prelude.{◌≡◌, [], ◌+◌, ◌≤◌, ◌<◌, length, get_or, take, drop};
-ghost use Rattle.words.specs.Parts.{find_of};
-ghost use Rattle.cells.specs.Cells.{end_of, content_of, trim_back, trimmed, field_of, cells_of};
+ghost use Rattle.std.specs.Prelude.{◌≡◌, ◌==◌, ◌<◌, ◌⊎◌, ℕ, List, [], ◌∷◌, length, take, MatchOption};
+ghost use Rattle.std.specs.Option.{IfSome};
+ghost use Rattle.std.specs.List.{position, position_or_len, suffix_len};
+ghost use Rattle.words.specs.Words.{is_space};
+ghost use Rattle.cells.specs.Cells.{without_return, content_of, trim_end, trimmed, field_of, byte_of, half_of, amount_of, cells_of, cells_left};
 
-use numbers::{Number, read_number};
-use words::{find_byte, part, skip_spaces};
+use lists::MISSING_AMOUNT;
+use numbers::read_number;
+use std::marker::Model;
+use words::trim_start;
 
-#[derive(Clone, Copy)]
-pub enum Field {
-    Value(u64),
-    Bad,
-}
-
-// How long a line is without a CR before its end.
-#[tactic(auto, using(lists::proofs::Checks::checks, crate::proofs::Trimming::end_none), unfolding(crate::specs::Cells::end_of))]
-fn line_end(line: &[u8]) -> usize
-    ensures { (result ≡ end_of line.now) × (result ≤ length line.now) }
+// The line without its CR.
+#[tactic(auto, using(lists::proofs::Checks::checks, crate::proofs::Cutting::no_return), unfolding(crate::specs::Cells::without_return))]
+fn without_return(line: &[u8]) -> &[u8]
+    ensures { result.now ≡ without_return line.now }
 {
-    let n = line.len();
-    if n == 0 {
-        return 0;
+    match line {
+        [front @ .., b'\r'] => front,
+        _ => line,
     }
-    if line[n - 1] == 13 {
-        return n - 1;
-    }
-    n
 }
 
-// The line without its CR and without its comment.
-#[tactic(auto, using(crate::proofs::Trimming::content_made))]
+// How long the line is before its comment.
+fn comment_start(line: &[u8]) -> usize
+    ensures { result ≡ position_or_len (λ b. b == 35) line.now }
+{
+    line.iter().take_while(|b| **b != b'#').count()
+}
+
+/// The line without its CR and without its comment.
+#[tactic(auto, using(words::proofs::Cutting::prefix_within), unfolding(crate::specs::Cells::content_of))]
 pub fn content(line: &[u8]) -> &[u8]
     ensures { result.now ≡ content_of line.now }
 {
-    let n = line_end(line);
-    let to = find_byte(line, 0, n, 35);
-    part(line, 0, to)
+    let line = without_return(line);
+    &line[..comment_start(line)]
 }
 
-// How long s is without the spaces at its end.
-#[tactic(auto, using(crate::proofs::Trimming::keeping))]
-fn kept(s: &[u8]) -> usize
-    ensures { (result ≤ length s.now) × (take result s.now ≡ trim_back s.now) }
+fn spaces_behind(s: &[u8]) -> usize
+    ensures { result ≡ suffix_len is_space s.now }
 {
-    let mut n = s.len();
-    while 0 < n {
-        if s[n - 1] != 32 {
-            return n;
-        }
-        n -= 1;
-    }
-    n
+    s.iter().rev().take_while(|b| **b == b' ').count()
 }
 
-// What is left without the spaces around it.
+// What is left without the spaces behind.
+#[tactic(auto, using(crate::proofs::Cutting::suffix_within))]
+fn trim_end(s: &[u8]) -> &[u8]
+    ensures { result.now ≡ trim_end s.now }
+{
+    &s[..s.len() - spaces_behind(s)]
+}
+
+/// What is left without the spaces around it.
+#[tactic(auto, unfolding(crate::specs::Cells::trimmed))]
 pub fn trim(s: &[u8]) -> &[u8]
     ensures { result.now ≡ trimmed s.now }
 {
-    let from = skip_spaces(s, 0);
-    let rest = part(s, from, s.len());
-    let n = kept(rest);
-    part(rest, 0, n)
+    trim_end(trim_start(s))
 }
 
 // What a cell says: `blank` where it is blank, its number where that is below the limit.
-pub fn read_field(s: &[u8], blank: u64, limit: u64) -> Field
-    ensures { result ≡ field_of blank limit s.now }
+#[tactic(auto, unfolding(crate::specs::Cells::field_of, lists::specs::Checks::check))]
+fn read_field(cell: &[u8], blank: u64, limit: u64) -> Option<u64>
+    ensures value { result ≡ field_of blank limit cell.now }
+    ensures within { IfSome result (λ v. (v ≡ blank) ⊎ (v < limit)) }
 {
-    let word = trim(s);
-    if word.len() == 0 {
-        return Field::Value(blank);
+    let word = trim(cell);
+    if word.is_empty() {
+        return Some(blank);
     }
-    match read_number(word) {
-        Number::Value(v) => {
-            if v < limit {
-                Field::Value(v)
-            } else {
-                Field::Bad
+    read_number(word).filter(|value| *value < limit)
+}
+
+/// What a cell of one byte says.
+pub fn read_byte(cell: &[u8]) -> Option<u8>
+    ensures { result ≡ byte_of cell.now }
+{
+    let value = read_field(cell, 255, 256)?;
+    Some(value as u8)
+}
+
+/// What a cell of two bytes says.
+pub fn read_half(cell: &[u8]) -> Option<u16>
+    ensures { result ≡ half_of cell.now }
+{
+    let value = read_field(cell, 65535, 65536)?;
+    Some(value as u16)
+}
+
+/// What a cell with an amount says.
+pub fn read_amount(cell: &[u8]) -> Option<u32>
+    ensures { result ≡ amount_of cell.now }
+{
+    let value = read_field(cell, MISSING_AMOUNT, MISSING_AMOUNT)?;
+    Some(value as u32)
+}
+
+/// The cells of a line that are left.
+#[derive(Drop)]
+pub struct Cells<'a> {
+    rest: Option<&'a [u8]>,
+}
+
+impl<'a> Model for Cells<'a> {
+    ghost Value = { List (List ℕ) };
+
+    ghost view = { λ cells. cells_left cells.rest };
+}
+
+fn comma(s: &[u8]) -> Option<usize>
+    ensures value { result ≡ position (λ b. b == 44) s.now }
+    ensures within { IfSome result (λ n. n < length s.now) }
+{
+    s.iter().position(|b| *b == b',')
+}
+
+impl<'a> Cells<'a> {
+    pub fn of_line(line: &'a [u8]) -> Self
+        ensures { result ≡ cells_of line.now }
+    {
+        Cells { rest: Some(line) }
+    }
+
+    /// The next cell, where there is one.
+    pub fn next(&mut self) -> Option<&'a [u8]>
+        ensures { MatchOption result ((self.old ≡ []) × (self.new ≡ [])) (λ cell. self.old ≡ cell.now ∷ self.new) }
+    {
+        let rest = self.rest?;
+        match comma(rest) {
+            Some(length) => {
+                self.rest = Some(&rest[length + 1..]);
+                Some(&rest[..length])
+            }
+            None => {
+                self.rest = None;
+                Some(rest)
             }
         }
-        Number::NotANumber => Field::Bad,
     }
-}
-
-// Where the cell ends that starts at `from`.
-fn cell_end(s: &[u8], from: usize) -> usize
-    ensures value { result ≡ find_of 44 s.now from (length s.now) }
-    ensures lower_bound { from ≤ result }
-{
-    find_byte(s, from, s.len(), 44)
-}
-
-// How many commas a line has: one less than it has cells.
-pub fn commas(s: &[u8]) -> usize
-    ensures { result + 1 ≡ length (cells_of s.now) }
-{
-    let mut count: usize = 0;
-    let mut end = cell_end(s, 0);
-    while end < s.len() {
-        end = cell_end(s, end + 1);
-        count += 1;
-    }
-    count
-}
-
-// Where the cell starts that has k cells in front of it.
-fn cell_start(s: &[u8], k: usize) -> usize
-    requires { k < length (cells_of s.now) }
-    ensures { (result ≤ length s.now) × (cells_of (drop result s.now) ≡ drop k (cells_of s.now)) }
-{
-    let mut start: usize = 0;
-    let mut i: usize = 0;
-    while i < k {
-        start = cell_end(s, start) + 1;
-        i += 1;
-    }
-    start
-}
-
-// What the cell says that has k cells in front of it.
-#[tactic(auto, using(crate::proofs::Cutting::cell_at))]
-pub fn read_cell(s: &[u8], k: usize, blank: u64, limit: u64) -> Field
-    requires { k < length (cells_of s.now) }
-    ensures { result ≡ field_of blank limit (get_or (cells_of s.now) k []) }
-{
-    let start = cell_start(s, k);
-    let end = cell_end(s, start);
-    read_field(part(s, start, end), blank, limit)
 }

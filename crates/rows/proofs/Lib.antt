@@ -1,3 +1,1 @@
--- The laws that the proofs cite.
-pub mod Making
-pub mod Theorems
+-- No law is needed here.

@@ -1,221 +1,140 @@
 // A line of a sheet as a record of 16 bytes.
 #![tactic(auto)]
 
-ghost use Rattle.std.specs.Prelude.{◌≡◌, ◌+◌, ◌≤◌, length};
-ghost use Rattle.buffers.specs.Buffer.{written};
+ghost use Rattle.std.specs.Prelude.{◌≡◌};
 ghost use Rattle.cells.specs.Cells.{cells_of};
-ghost use Rattle.rows.specs.Rows.{named_of, four_of, five_of, member_row, stress_row, row_of, bytes_of};
-ghost use Rattle.rows.specs.Parts.{is_bad, value_of};
+ghost use Rattle.rows.specs.Rows.{named_of, member_of, stress_of, row_of, bytes_of};
 
-use buffers::put_bytes;
-use cells::{Field, commas, content, read_cell, trim};
-use lists::MISSING_AMOUNT;
-use words::same;
+use cells::{Cells, content, read_amount, read_byte, read_half, trim};
+use words::Unreadable;
 
-#[derive(Clone, Copy)]
+/// The kinds of sheets.
+#[derive(Clone, Copy, Debug, PartialEq, Eq)]
 pub enum Kind {
     Register,
     Shares,
     Stress,
 }
 
-// A kind by its name.
-#[derive(Clone, Copy)]
-pub enum Named {
-    Known(Kind),
-    Unknown,
-}
-
-// What a line holds: nothing, a record, or neither.
-#[derive(Clone, Copy)]
-pub enum Row {
-    Skipped,
-    Bad,
+/// A record of a sheet: of a register or a shares sheet, or of a stress sheet.
+#[derive(Clone, Copy, Debug, PartialEq, Eq)]
+pub enum Record {
     Member {
-        member: u64,
-        amount1: u64,
-        amount2: u64,
-        amount3: u64,
+        member: u8,
+        amounts: [u32; 3],
     },
     Stress {
-        day: u64,
-        scenario: u64,
-        member: u64,
-        weak: u64,
-        loss: u64,
+        day: u16,
+        scenario: u16,
+        member: u8,
+        weak: u8,
+        loss: u32,
     },
 }
 
+/// A kind by its name.
 #[tactic(auto, unfolding(crate::specs::Rows::named_of, lists::specs::Checks::check))]
-pub fn kind_named(word: &[u8]) -> Named
+pub fn kind_named(word: &[u8]) -> Option<Kind>
     ensures { result ≡ named_of word.now }
 {
-    if same(word, b"register") {
-        return Named::Known(Kind::Register);
+    if word == b"register".as_slice() {
+        Some(Kind::Register)
+    } else if word == b"shares".as_slice() {
+        Some(Kind::Shares)
+    } else if word == b"stress".as_slice() {
+        Some(Kind::Stress)
+    } else {
+        None
     }
-    if same(word, b"shares") {
-        return Named::Known(Kind::Shares);
-    }
-    if same(word, b"stress") {
-        return Named::Known(Kind::Stress);
-    }
-    Named::Unknown
 }
 
-fn is_bad(f: Field) -> bool
-    ensures { result ≡ is_bad f }
+// A line of a register or a shares sheet.
+fn read_member(line: &[u8]) -> Option<Record>
+    ensures { result ≡ member_of (cells_of line.now) }
 {
-    match f {
-        Field::Value(_) => false,
-        Field::Bad => true,
+    let mut cells = Cells::of_line(line);
+    let member = cells.next()?;
+    let one = cells.next()?;
+    let two = cells.next()?;
+    let three = cells.next()?;
+    if cells.next().is_some() {
+        return None;
     }
+    Some(Record::Member {
+        member: read_byte(member)?,
+        amounts: [read_amount(one)?, read_amount(two)?, read_amount(three)?],
+    })
 }
 
-fn value(f: Field) -> u64
-    ensures { result ≡ value_of f }
+// A line of a stress sheet.
+fn read_stress(line: &[u8]) -> Option<Record>
+    ensures { result ≡ stress_of (cells_of line.now) }
 {
-    match f {
-        Field::Value(v) => v,
-        Field::Bad => 0,
+    let mut cells = Cells::of_line(line);
+    let day = cells.next()?;
+    let scenario = cells.next()?;
+    let member = cells.next()?;
+    let weak = cells.next()?;
+    let loss = cells.next()?;
+    if cells.next().is_some() {
+        return None;
     }
+    Some(Record::Stress {
+        day: read_half(day)?,
+        scenario: read_half(scenario)?,
+        member: read_byte(member)?,
+        weak: read_byte(weak)?,
+        loss: read_amount(loss)?,
+    })
 }
 
-fn member_row(member: Field, amount1: Field, amount2: Field, amount3: Field) -> Row
-    ensures { result ≡ member_row member amount1 amount2 amount3 }
-{
-    if is_bad(member) | is_bad(amount1) | is_bad(amount2) | is_bad(amount3) {
-        return Row::Bad;
-    }
-    Row::Member {
-        member: value(member),
-        amount1: value(amount1),
-        amount2: value(amount2),
-        amount3: value(amount3),
-    }
-}
-
-fn stress_row(day: Field, scenario: Field, member: Field, weak: Field, loss: Field) -> Row
-    ensures { result ≡ stress_row day scenario member weak loss }
-{
-    if is_bad(day) | is_bad(scenario) | is_bad(member) | is_bad(weak) | is_bad(loss) {
-        return Row::Bad;
-    }
-    Row::Stress {
-        day: value(day),
-        scenario: value(scenario),
-        member: value(member),
-        weak: value(weak),
-        loss: value(loss),
-    }
-}
-
-// A line of a register or a shares sheet, where it has four cells.
-fn four(s: &[u8]) -> Row
-    ensures { result ≡ four_of (cells_of s.now) }
-{
-    if commas(s) != 3 {
-        return Row::Bad;
-    }
-    member_row(
-        read_cell(s, 0, 255, 256),
-        read_cell(s, 1, MISSING_AMOUNT, MISSING_AMOUNT),
-        read_cell(s, 2, MISSING_AMOUNT, MISSING_AMOUNT),
-        read_cell(s, 3, MISSING_AMOUNT, MISSING_AMOUNT),
-    )
-}
-
-// A line of a stress sheet, where it has five cells.
-fn five(s: &[u8]) -> Row
-    ensures { result ≡ five_of (cells_of s.now) }
-{
-    if commas(s) != 4 {
-        return Row::Bad;
-    }
-    stress_row(
-        read_cell(s, 0, 65535, 65536),
-        read_cell(s, 1, 65535, 65536),
-        read_cell(s, 2, 255, 256),
-        read_cell(s, 3, 255, 256),
-        read_cell(s, 4, MISSING_AMOUNT, MISSING_AMOUNT),
-    )
-}
-
-#[tactic(auto, using(crate::proofs::Making::row_skipped, crate::proofs::Making::row_made))]
-pub fn row_of_line(kind: Kind, line: &[u8]) -> Row
+/// The record that a line of a sheet holds, and None where the line has no word.
+#[tactic(auto, unfolding(crate::specs::Rows::row_of, lists::specs::Checks::check))]
+pub fn read_row(kind: Kind, line: &[u8]) -> Result<Option<Record>, Unreadable>
     ensures { result ≡ row_of kind line.now }
 {
-    let s = content(line);
-    let word = trim(s);
-    if word.len() == 0 {
-        return Row::Skipped;
+    let line = content(line);
+    if trim(line).is_empty() {
+        return Ok(None);
     }
-    match kind {
-        Kind::Register => four(s),
-        Kind::Shares => four(s),
-        Kind::Stress => five(s),
+    let record = match kind {
+        Kind::Register | Kind::Shares => read_member(line),
+        Kind::Stress => read_stress(line),
+    };
+    match record {
+        Some(record) => Ok(Some(record)),
+        None => Err(Unreadable),
     }
 }
 
-fn put_member(
-    out: &mut [u8],
-    at: usize,
-    member: u64,
-    amount1: u64,
-    amount2: u64,
-    amount3: u64,
-) -> usize
-    requires { at + 16 ≤ length out.old }
-    ensures { (result ≡ at + 16) × (out.new ≡ written out.old at (bytes_of (Row.Member member amount1 amount2 amount3))) }
-{
-    let a = put_bytes(out, at, 1, member);
-    let b = put_bytes(out, a, 3, 0);
-    let c = put_bytes(out, b, 4, amount1);
-    let d = put_bytes(out, c, 4, amount2);
-    put_bytes(out, d, 4, amount3)
-}
-
-fn put_stress(
-    out: &mut [u8],
-    at: usize,
-    day: u64,
-    scenario: u64,
-    member: u64,
-    weak: u64,
-    loss: u64,
-) -> usize
-    requires { at + 16 ≤ length out.old }
-    ensures { (result ≡ at + 16) × (out.new ≡ written out.old at (bytes_of (Row.Stress day scenario member weak loss))) }
-{
-    let a = put_bytes(out, at, 2, day);
-    let b = put_bytes(out, a, 2, scenario);
-    let c = put_bytes(out, b, 1, member);
-    let d = put_bytes(out, c, 1, weak);
-    let e = put_bytes(out, d, 2, 0);
-    let f = put_bytes(out, e, 4, loss);
-    put_bytes(out, f, 4, 0)
-}
-
-// The record at the place `at` of the buffer, where the row is one. Answers the place after it.
-#[tactic(auto, using(buffers::proofs::Written::written_none))]
-pub fn put_row(out: &mut [u8], at: usize, row: Row) -> usize
-    requires { at + 16 ≤ length out.old }
-    ensures { (result ≡ at + length (bytes_of row)) × (out.new ≡ written out.old at (bytes_of row)) }
-{
-    match row {
-        Row::Skipped => at,
-        Row::Bad => at,
-        Row::Member {
-            member,
-            amount1,
-            amount2,
-            amount3,
-        } => put_member(out, at, member, amount1, amount2, amount3),
-        Row::Stress {
-            day,
-            scenario,
-            member,
-            weak,
-            loss,
-        } => put_stress(out, at, day, scenario, member, weak, loss),
+impl Record {
+    /// Its bytes in a sheet.
+    pub fn bytes(self) -> [u8; 16]
+        ensures { result ≡ bytes_of self }
+    {
+        let mut bytes = [0; 16];
+        match self {
+            Record::Member { member, amounts } => {
+                bytes[0] = member;
+                let [one, two, three] = amounts;
+                bytes[4..8].copy_from_slice(&one.to_le_bytes());
+                bytes[8..12].copy_from_slice(&two.to_le_bytes());
+                bytes[12..].copy_from_slice(&three.to_le_bytes());
+            }
+            Record::Stress {
+                day,
+                scenario,
+                member,
+                weak,
+                loss,
+            } => {
+                bytes[..2].copy_from_slice(&day.to_le_bytes());
+                bytes[2..4].copy_from_slice(&scenario.to_le_bytes());
+                bytes[4] = member;
+                bytes[5] = weak;
+                bytes[8..12].copy_from_slice(&loss.to_le_bytes());
+            }
+        }
+        bytes
     }
 }

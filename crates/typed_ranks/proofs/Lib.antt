@@ -1,2 +1,1 @@
--- The laws that the proofs cite.
-pub mod Ranking
+-- No law is needed here.

@@ -1,4 +1,3 @@
 -- The definitions that the contracts cite.
 pub mod TypedRanks
 pub mod Pools
-pub mod Parts

@@ -1,20 +1,17 @@
 -- `read_ranks` meets its contract. The invariant: the words that are left say what all of them do.
-use Prim.Native.Nat.{◌-◌, ◌≤◌}
-use mathlib.Core.Path.{◌≡◌}
-use lib.ListN.{length, drop}
-use Rattle.words.specs.Words.{words_of}
-use Rattle.typed_ranks.specs.TypedRanks.{all_good, ranks_in}
+use Rattle.std.proofs.Common.{◌≡◌, ◌≤◌, length}
+use Rattle.typed_ranks.specs.TypedRanks.{unnamed, all_good, ranks_in}
 use Rattle.typed_ranks.specs.Pools.{to_slash, further_pools}
 use Rattle.typed_ranks.proofs.read_ranks.Given as goal
 
-abbrev pub invariant-loop-from : goal.invariant-loop-from
-invariant-loop-from l =
-    (length l.ranks ≡ 64)
-    × (length l.named ≡ 64)
-    × (l.from ≤ l.at)
-    × (all_good l.named (to_slash (words_of (drop l.at l.line))) ≡ all_good l.initial.named (to_slash (words_of (drop l.from l.line))))
-    × (ranks_in l.ranks (to_slash (words_of (drop l.at l.line))) ≡ ranks_in l.initial.ranks (to_slash (words_of (drop l.from l.line))))
-    × (further_pools (words_of (drop l.at l.line)) ≡ further_pools (words_of (drop l.from l.line)))
+abbrev pub invariant-loop-word : goal.invariant-loop-word
+invariant-loop-word l =
+    record {
+      fewer : length l.words ≤ length l.initial.words;
+      as_good : all_good l.named (to_slash l.words) ≡ all_good unnamed (to_slash l.initial.words);
+      same_ranks : ranks_in l.ranks (to_slash l.words) ≡ ranks_in l.initial.ranks (to_slash l.initial.words);
+      same_pools : further_pools l.words ≡ further_pools l.initial.words;
+    }
 
-abbrev pub decreases-loop-from : goal.decreases-loop-from
-decreases-loop-from l = length l.line - l.at
+abbrev pub decreases-loop-word : goal.decreases-loop-word
+decreases-loop-word l = length l.words

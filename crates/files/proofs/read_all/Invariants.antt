@@ -1,9 +1,9 @@
--- `read_all` ends: the turns are counted down. The bytes that are there lie within the buffer.
-use Rattle.std.proofs.Common.{◌≤◌, length, ◌≡◌}
+-- `read_all` ends: each turn leaves less room. The bytes that are there lie within it.
+use Rattle.std.proofs.Common.{◌≤◌, ◌-◌, ◌≡◌, length}
 use Rattle.files.proofs.read_all.Given as goal
 
-abbrev pub invariant-loop-turns : goal.invariant-loop-turns
-invariant-loop-turns g l = (length l.sheet ≡ length l.fn.sheet) × (l.done ≤ length l.fn.sheet)
+abbrev pub invariant-loop-done : goal.invariant-loop-done
+invariant-loop-done g l = (length l.room ≡ length l.initial.room) × (l.done ≤ length l.room)
 
-abbrev pub decreases-loop-turns : goal.decreases-loop-turns
-decreases-loop-turns g l = l.turns
+abbrev pub decreases-loop-done : goal.decreases-loop-done
+decreases-loop-done g l = length l.room - l.done

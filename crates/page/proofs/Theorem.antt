@@ -5,11 +5,11 @@ use mathlib.Core.List.{List, [], ◌∷◌, ◌++◌}
 use native.Mathlib.Omega.{arith}
 use lib.ListN.{length, take, drop}
 use lib.Seq.{take_at}
+use Rattle.std.proofs.Common.{None}
 use Rattle.lists.specs.Limits.{amount_limit, printed_limit}
 use Rattle.lists.specs.Checks.{check}
 use Rattle.lists.specs.Texts.{ascii}
 use Rattle.lists.proofs.Cases.{append_apart}
-use Rattle.buffers.specs.Buffer.{spaces}
 use Rattle.numbers.specs.Numbers.{read_of}
 use Rattle.numbers.specs.declared.Number.{Number}
 use Rattle.indian_digits.specs.IndianDigits.{indian_of}
@@ -25,7 +25,7 @@ use Rattle.waterfall.proofs.Pooled.{pooled_layer4}
 use Rattle.waterfall.specs.declared.Allocation.{Allocation}
 use Rattle.waterfall.specs.declared.Register.{Register}
 use Rattle.page.specs.Parts.{Within}
-use Rattle.page.specs.Page.{left_aligned, right_aligned, row_of, heading, line, page_of, page_length, amounts_of, page_refusal, page_left, PrintAlike}
+use Rattle.page.specs.Page.{spaces, left_aligned, right_aligned, row_of, heading, line, page_of, page_length, amounts_of, page_refusal, page_left, PrintAlike}
 use Rattle.page.proofs.Rows.{right-length, row-line-length, page-length, within, printable}
 
 -- The law: a printed amount gives the number back -----------------------------------
@@ -69,7 +69,7 @@ pages_apart a b v w e =
     rw (r1.1, r2.1, r3.1, r4.1, r5.1, r6.1, r7.1)
 
 -- what an accepted page has in front
-left-page : (a : Allocation) (page : List ℕ) → page_refusal a (length page) ≡ 0 → take page_length (page_left a page) ≡ page_of a
+left-page : (a : Allocation) (page : List ℕ) → page_refusal a (length page) ≡ None → take page_length (page_left a page) ≡ page_of a
 unfolding page_left check
 left-page a page e = rw e (take_at (page_of a) (drop page_length page) page_length (page-length a (within a (length page) e).1))
 
@@ -77,8 +77,8 @@ left-page a page e = rw e (take_at (page_of a) (drop page_length page) page_leng
 
 pub no_two_alike : (a b : Allocation) (page other : List ℕ) → PrintAlike a page b other → amounts_of a ≡ amounts_of b
 no_two_alike a b page other e =
-    let p : page_refusal a (length page) ≡ 0 = omega (arith, e.0) in
-    let q : page_refusal b (length other) ≡ 0 = omega (arith, e.1) in
+    let p : page_refusal a (length page) ≡ None = e.0 in
+    let q : page_refusal b (length other) ≡ None = e.1 in
     pages_apart a b (within a (length page) p).1 (within b (length other) q).1 (sym (left-page a page p) ∙ e.2 ∙ left-page b other q)
 
 -- Every default's answer can be printed ---------------------------------------------
@@ -101,6 +101,6 @@ answers-within r member pools ranks slip g e =
     }
 
 pub answers_print : (r : Register) (member : ℕ) (pools : Pools) (ranks slip : List ℕ) (size : ℕ) → GivenBack r → pooled_refusal r member pools ranks slip ≡ 0
-    → page_length ≤ size → page_refusal (pooled_allocation r member pools ranks) size ≡ 0
+    → page_length ≤ size → page_refusal (pooled_allocation r member pools ranks) size ≡ None
 answers_print r member pools ranks slip size g e h =
     printable (pooled_allocation r member pools ranks) size (answers-within r member pools ranks slip g e) h

@@ -1,11 +1,16 @@
 -- Document 02, request 1: "A printed waterfall for the wall. Schools pin up each default as a page."
-use Rattle.std.specs.Prelude.{ℕ, ◌-◌, ◌≡◌, refl, Bool, false, ◌||◌, List, [], ◌∷◌, ◌++◌, ltb, length, take, drop}
+use Rattle.std.specs.Prelude.{ℕ, ◌-◌, ◌≡◌, refl, Bool, ◌||◌, List, [], ◌∷◌, ◌++◌, Option, Some, None, is_some, ltb, length, take, drop, replicate}
+use Rattle.std.specs.List.{list_any}
 use Rattle.lists.specs.Limits.{printed_limit}
-use Rattle.lists.specs.Checks.{check, refuses}
+use Rattle.lists.specs.Checks.{check}
 use Rattle.lists.specs.Texts.{ascii}
-use Rattle.buffers.specs.Buffer.{spaces}
 use Rattle.indian_digits.specs.IndianDigits.{indian_of}
+use Rattle.refusal.specs.declared.Refusal.{Refusal}
 use Rattle.waterfall.specs.declared.Allocation.{Allocation}
+
+-- n spaces
+abbrev pub spaces : ℕ → List ℕ
+spaces n = replicate n 32
 
 -- "left-aligned in 20 columns"
 abbrev pub left_aligned : List ℕ → List ℕ
@@ -53,21 +58,20 @@ amounts_of a =
     a.margin ∷ a.contribution ∷ a.tranche1 ∷ a.members ∷ a.tranche2 ∷ a.calls ∷ a.short ∷ []
 
 abbrev pub any_above : ℕ → List ℕ → Bool
-any_above limit [] = false
-any_above limit (n ∷ ns) = ltb limit n || any_above limit ns
+any_above limit amounts = list_any (ltb limit) amounts
 
 -- 20. "page buffer below 328 bytes or an amount above 26,000,000,000". `size` is how many bytes are lent.
-unfoldable pub page_refusal : Allocation → ℕ → ℕ
+unfoldable pub page_refusal : Allocation → ℕ → Option Refusal
 page_refusal a size =
-    check (ltb size page_length || any_above printed_limit (amounts_of a)) 20
-    0
+    check (ltb size page_length || any_above printed_limit (amounts_of a)) (Some Refusal.Unprintable)
+    None
 
 -- the lent page as it is left: "before anything is written", and "Bytes after the page stay."
 unfoldable pub page_left : Allocation → List ℕ → List ℕ
-page_left a page = check (refuses (page_refusal a (length page))) page (page_of a ++ drop page_length page)
+page_left a page = check (is_some (page_refusal a (length page))) page (page_of a ++ drop page_length page)
 
 -- Two answers are printed, each on a page of its own, and the pages are the same. "No two default answers with different layers or shortfalls
 -- may print alike": theorem `no_two_alike` in proofs/Theorem.antt.
 abbrev pub PrintAlike : Allocation → List ℕ → Allocation → List ℕ → Type 0
 PrintAlike a page b other =
-    (page_refusal a (length page) ≡ 0) × (page_refusal b (length other) ≡ 0) × (take page_length (page_left a page) ≡ take page_length (page_left b other))
+    (page_refusal a (length page) ≡ None) × (page_refusal b (length other) ≡ None) × (take page_length (page_left a page) ≡ take page_length (page_left b other))

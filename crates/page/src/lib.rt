@@ -1,105 +1,95 @@
 // A default's answer as a page for the wall: document 02, request 1.
 #![tactic(auto)]
 
-ghost use Rattle.std.specs.Prelude.{◌≡◌, ◌+◌, ◌≤◌, length};
+ghost use Rattle.std.specs.Prelude.{◌≡◌, ◌≤◌, ◌++◌, length, drop, flat_map};
 ghost use Rattle.lists.specs.Limits.{printed_limit};
-ghost use Rattle.buffers.specs.Buffer.{written};
-ghost use Rattle.page.specs.Page.{amounts_of, any_above, heading, line, row_of, page_length, page_refusal, page_left};
-ghost use Rattle.page.specs.Parts.{Within, upper_of, lower_of};
+ghost use Rattle.refusal.specs.Refusal.{answered};
+ghost use Rattle.page.specs.Page.{amounts_of, any_above, line, row_of, page_length, page_of, page_refusal, page_left};
+ghost use Rattle.page.specs.Parts.{Within};
 
-use buffers::{put_spaces, put_text};
 use indian_digits::put_amount;
 use lists::PRINTED_LIMIT;
+use refusal::Refusal;
+use text::Text;
 use waterfall::Allocation;
 
-// Eight lines of 40 bytes, and byte 10 behind each.
-const PAGE_LENGTH: usize = 328;
+// A row of 40 bytes, and byte 10 behind it.
+const LINE_LENGTH: usize = 41;
+
+const PAGE_LENGTH: usize = 8 * LINE_LENGTH;
 
 // Whether an amount is above what a page prints.
 fn excessive(a: Allocation) -> bool
     ensures { result ≡ any_above printed_limit (amounts_of a) }
 {
-    (PRINTED_LIMIT < a.margin)
-        | (PRINTED_LIMIT < a.contribution)
-        | (PRINTED_LIMIT < a.tranche1)
-        | (PRINTED_LIMIT < a.members)
-        | (PRINTED_LIMIT < a.tranche2)
-        | (PRINTED_LIMIT < a.calls)
-        | (PRINTED_LIMIT < a.short)
+    let amounts = [
+        a.margin,
+        a.contribution,
+        a.tranche1,
+        a.members,
+        a.tranche2,
+        a.calls,
+        a.short,
+    ];
+    amounts.iter().any(|amount| PRINTED_LIMIT < *amount)
 }
 
-// 20 where an answer is not printed on so many bytes, 0 else.
+// Whether an answer is printed on so many bytes.
 #[tactic(auto, unfolding(lists::specs::Checks::check, crate::specs::Page::page_refusal))]
-fn refusal(a: Allocation, size: usize) -> u8
-    ensures { result ≡ page_refusal a size }
+fn printable(a: Allocation, size: usize) -> Result<(), Refusal>
+    ensures { result ≡ answered (page_refusal a size) tt }
 {
-    if size < PAGE_LENGTH {
-        return 20;
+    if size < PAGE_LENGTH || excessive(a) {
+        return Err(Refusal::Unprintable);
     }
-    if excessive(a) {
-        return 20;
-    }
-    0
+    Ok(())
 }
 
-// The first line. Answers the place after it, as the others do.
-fn put_heading(page: &mut [u8]) -> usize
-    requires { 41 ≤ length page.old }
-    ensures value { (result ≡ length (line heading)) × (page.new ≡ written page.old 0 (line heading)) }
-    ensures value_2 { result ≡ 41 }
+// A layer's line: its name at the left, its amount at the right.
+fn row(name: &[u8], amount: u64) -> [u8; LINE_LENGTH]
+    requires { (length name.now ≤ 20) × (amount ≤ printed_limit) }
+    ensures { result ≡ line (row_of name.now amount) }
 {
-    let end = put_text(page, 0, b"LAYER                        Rs THOUSAND");
-    page[end] = 10;
-    end + 1
+    let mut right = Text::<20>::new();
+    put_amount(&mut right, amount);
+    let mut row = [b' '; LINE_LENGTH];
+    row[..name.len()].copy_from_slice(name);
+    row[40 - right.len()..40].copy_from_slice(right.as_bytes());
+    row[40] = b'\n';
+    row
 }
 
-// A layer's line at the place `at`. The amount goes first, from its end: where it begins, the spaces before it end.
-fn put_row(page: &mut [u8], at: usize, name: &[u8], amount: u64) -> usize
-    requires { (at + 41 ≤ length page.old) × (length name.now ≤ 20) × (amount ≤ printed_limit) }
-    ensures value { (result ≡ at + length (line (row_of name.now amount))) × (page.new ≡ written page.old at (line (row_of name.now amount))) }
-    ensures value_2 { result ≡ at + 41 }
+// The page's lines.
+fn lines(a: Allocation) -> [[u8; LINE_LENGTH]; 8]
+    requires { Within a }
+    ensures { flat_map (λ line. line) result ≡ page_of a }
 {
-    let begin = put_amount(page, at + 40, amount);
-    let behind = put_text(page, at, name);
-    put_spaces(page, behind, begin);
-    page[at + 40] = 10;
-    at + 41
+    [
+        *b"LAYER                        Rs THOUSAND\n",
+        row(b"MARGIN", a.margin),
+        row(b"OWN FUND", a.contribution),
+        row(b"TRANCHE 1", a.tranche1),
+        row(b"MEMBERS", a.members),
+        row(b"TRANCHE 2", a.tranche2),
+        row(b"CALLS", a.calls),
+        row(b"SHORT", a.short),
+    ]
 }
 
-// The upper half of the page.
-fn put_upper(page: &mut [u8], a: Allocation) -> usize
+// The page in front of what a lent one holds behind it.
+fn put_page(page: &mut [u8], a: Allocation)
     requires { (page_length ≤ length page.old) × Within a }
-    ensures value { (result ≡ length (upper_of a)) × (page.new ≡ written page.old 0 (upper_of a)) }
-    ensures value_2 { result ≡ 164 }
+    ensures { page.new ≡ page_of a ++ drop page_length page.old }
 {
-    let b = put_heading(page);
-    let c = put_row(page, b, b"MARGIN", a.margin);
-    let d = put_row(page, c, b"OWN FUND", a.contribution);
-    put_row(page, d, b"TRANCHE 1", a.tranche1)
+    page[..PAGE_LENGTH].copy_from_slice(lines(a).as_flattened());
 }
 
-// The lower half, from the place `at` on.
-fn put_lower(page: &mut [u8], at: usize, a: Allocation) -> usize
-    requires { (at + 164 ≤ length page.old) × Within a }
-    ensures { (result ≡ at + length (lower_of a)) × (page.new ≡ written page.old at (lower_of a)) }
-{
-    let b = put_row(page, at, b"MEMBERS", a.members);
-    let c = put_row(page, b, b"TRANCHE 2", a.tranche2);
-    let d = put_row(page, c, b"CALLS", a.calls);
-    put_row(page, d, b"SHORT", a.short)
-}
-
-// The page of an answer, put into the front of a lent one. Answers 0, or 20 where it is refused, before anything is written.
-#[tactic(auto, unfolding(lists::specs::Checks::check, crate::specs::Page::page_left))]
-pub fn print(answer: Allocation, page: &mut [u8]) -> u8
-    ensures value { result ≡ page_refusal answer (length page.old) }
+/// The page of an answer, put into the front of a lent one, or refused before anything is written.
+pub fn print(answer: Allocation, page: &mut [u8]) -> Result<(), Refusal>
+    ensures answers { result ≡ answered (page_refusal answer (length page.old)) tt }
     ensures page_after { page.new ≡ page_left answer page.old }
 {
-    let number = refusal(answer, page.len());
-    if 0 < number {
-        return number;
-    }
-    let half = put_upper(page, answer);
-    put_lower(page, half, answer);
-    0
+    printable(answer, page.len())?;
+    put_page(page, answer);
+    Ok(())
 }

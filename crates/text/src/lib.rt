@@ -74,7 +74,8 @@ impl<const N: usize> Text<N> {
     /// Puts bytes behind the others.
     pub fn put(&mut self, text: &[u8])
         requires { length self.old + length text.now ≤ N }
-        ensures { self.new ≡ self.old ++ text.now }
+        ensures bytes { self.new ≡ self.old ++ text.now }
+        ensures len { length self.new ≡ length self.old + length text.now }
     {
         let end = self.len + text.len();
         let bytes = &mut self.bytes[..];
@@ -86,7 +87,8 @@ impl<const N: usize> Text<N> {
     #[tactic(auto, using(crate::proofs::Digits::decimal_printed))]
     pub fn put_number(&mut self, n: u64)
         requires { length self.old + 20 ≤ N }
-        ensures { self.new ≡ self.old ++ decimal_of n }
+        ensures bytes { self.new ≡ self.old ++ decimal_of n }
+        ensures len { length self.new ≤ length self.old + 20 }
     {
         self.put(Buffer::new().format(n).as_bytes());
     }
@@ -95,7 +97,8 @@ impl<const N: usize> Text<N> {
     #[tactic(auto, unfolding(numbers::specs::Numbers::labelled))]
     pub fn put_labelled(&mut self, label: &[u8], n: u64)
         requires { length self.old + length label.now + 20 ≤ N }
-        ensures { self.new ≡ self.old ++ labelled label.now n }
+        ensures bytes { self.new ≡ self.old ++ labelled label.now n }
+        ensures len { length self.new ≤ length self.old + length label.now + 20 }
     {
         self.put(label);
         self.put_number(n);

@@ -1,23 +1,23 @@
 -- What is printed of a refusal, and of an opening.
-use Rattle.std.specs.Prelude.{ℕ, ◌||◌, List, [], ◌++◌, ltb}
-use Rattle.lists.specs.Checks.{check, refuses}
+use Rattle.std.specs.Prelude.{ℕ, List, [], ◌++◌, Option, Some, None}
 use Rattle.lists.specs.Texts.{ascii}
 use Rattle.numbers.specs.Numbers.{labelled}
-use Rattle.sheets.specs.declared.Refusal.{Refusal}
+use Rattle.refusal.specs.declared.Refusal.{Refusal}
+use Rattle.refusal.specs.Refusal.{number_of}
 
 -- the record, "for 4 to 8"
-unfoldable pub record_text : ℕ → ℕ → List ℕ
-record_text number position = check (ltb number 4 || ltb 8 number) [] (labelled (ascii " record ") position)
+unfoldable pub record_text : Refusal → List ℕ
+record_text (Refusal.Record fault position) = labelled (ascii " record ") position
+record_text _ = []
 
 -- "`refused N record P` for 4 to 8, `refused N` else"
-unfoldable pub refusal_text : ℕ → ℕ → List ℕ
-refusal_text number position =
-    labelled (ascii "refused ") number
-    ++ record_text number position
+unfoldable pub refusal_text : Refusal → List ℕ
+refusal_text refusal =
+    labelled (ascii "refused ") (number_of refusal)
+    ++ record_text refusal
     ++ ascii "\n"
 
 -- "`opening accepted`, or `opening refused N record P` for 4 to 8, `opening refused N` else"
-unfoldable pub opening_text : Refusal → List ℕ
-opening_text r =
-    check (refuses r.number) (ascii "opening " ++ refusal_text r.number r.position)
-    (ascii "opening accepted\n")
+unfoldable pub opening_text : Option Refusal → List ℕ
+opening_text (Some refusal) = ascii "opening " ++ refusal_text refusal
+opening_text None = ascii "opening accepted\n"

@@ -1,45 +1,49 @@
-// A refusal as text, and what became of an opening. Each function answers the place after the text.
+// A refusal as text, and what became of an opening.
 #![tactic(auto)]
 
-ghost use Rattle.std.specs.Prelude.{◌≡◌, ◌+◌, ◌≤◌, length};
-ghost use Rattle.buffers.specs.Buffer.{written};
+ghost use Rattle.std.specs.Prelude.{◌≡◌, ◌+◌, ◌≤◌, ◌++◌, length};
 ghost use Rattle.print_refusal.specs.Texts.{record_text, refusal_text, opening_text};
 
-use buffers::put_text;
-use numbers::{as_number, put_labelled, wide};
-use sheets::Refusal;
+use refusal::Refusal;
+use text::Text;
 
-// The record of a refusal, which it has where its number is 4 to 8.
-fn put_record(out: &mut [u8], at: usize, number: u64, position: u64) -> usize
-    requires { at + 28 ≤ length out.old }
-    ensures value { (result ≡ at + length (record_text number position)) × (out.new ≡ written out.old at (record_text number position)) }
-    ensures upper_bound { result ≤ at + 28 }
+// The record of a refusal, where it has one.
+#[tactic(auto, unfolding(crate::specs::Texts::record_text))]
+fn put_record<const N: usize>(out: &mut Text<N>, refusal: Refusal)
+    requires { length out.old + 28 ≤ N }
+    ensures bytes { out.new ≡ out.old ++ record_text refusal }
+    ensures len { length out.new ≤ length out.old + 28 }
 {
-    if (number < 4) | (8 < number) {
-        return at;
+    match refusal {
+        Refusal::Record { position, .. } => out.put_labelled(b" record ", position as u64),
+        _ => {}
     }
-    put_labelled(out, at, b" record ", position)
 }
 
-pub fn put_refusal(out: &mut [u8], at: usize, number: u64, position: u64) -> usize
-    requires { at + 57 ≤ length out.old }
-    ensures value { (result ≡ at + length (refusal_text number position)) × (out.new ≡ written out.old at (refusal_text number position)) }
-    ensures upper_bound { result ≤ at + 57 }
+/// Puts a refusal, a line of its own.
+#[tactic(auto, unfolding(crate::specs::Texts::refusal_text))]
+pub fn put_refusal<const N: usize>(out: &mut Text<N>, refusal: Refusal)
+    requires { length out.old + 57 ≤ N }
+    ensures bytes { out.new ≡ out.old ++ refusal_text refusal }
+    ensures len { length out.new ≤ length out.old + 57 }
 {
-    let a = put_labelled(out, at, b"refused ", number);
-    let b = put_record(out, a, number, position);
-    put_text(out, b, b"\n")
+    out.put_labelled(b"refused ", u64::from(refusal.number()));
+    put_record(out, refusal);
+    out.put(b"\n");
 }
 
-// The opening's answer, from the front of the buffer on.
-pub fn put_opening(out: &mut [u8], refusal: Refusal) -> usize
-    requires { 128 ≤ length out.old }
-    ensures value { (result ≡ length (opening_text refusal)) × (out.new ≡ written out.old 0 (opening_text refusal)) }
-    ensures upper_bound { result ≤ 128 }
+/// Puts the opening's answer.
+#[tactic(auto, unfolding(crate::specs::Texts::opening_text))]
+pub fn put_opening<const N: usize>(out: &mut Text<N>, refusal: Option<Refusal>)
+    requires { length out.old + 65 ≤ N }
+    ensures bytes { out.new ≡ out.old ++ opening_text refusal }
+    ensures len { length out.new ≤ length out.old + 65 }
 {
-    if 0 < refusal.number {
-        let at = put_text(out, 0, b"opening ");
-        return put_refusal(out, at, wide(refusal.number), as_number(refusal.position));
+    match refusal {
+        Some(refusal) => {
+            out.put(b"opening ");
+            put_refusal(out, refusal);
+        }
+        None => out.put(b"opening accepted\n"),
     }
-    put_text(out, 0, b"opening accepted\n")
 }

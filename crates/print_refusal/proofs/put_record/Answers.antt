@@ -1,22 +1,18 @@
--- `put_record` meets its contract, by cases.
-use mathlib.Core.Path.{refl}
-use native.Mathlib.Omega.{arith}
-use Rattle.lists.proofs.Checks.{check-true, check-false}
-use Rattle.buffers.proofs.Putting.{put_as, put-none}
+-- `put_record` meets its contract where there is no record.
+use Rattle.std.proofs.Common.{◌≡◌, ℕ, [], arith, refl, sym, append-nil}
 use Rattle.print_refusal.specs.Texts.{record_text}
+use Rattle.refusal.specs.declared.Refusal.{Refusal}
+use Rattle.refusal.specs.declared.Fault.{Fault}
 use Rattle.print_refusal.proofs.put_record.Goals as goal
 
-pub returns-then-number : goal.returns-then-number
+no_record : (r : Refusal) → ((f : Fault) (p : ℕ) → r ≡ Refusal.Record f p → ⊥) → record_text r ≡ []
 unfolding record_text
-returns-then-number c = record {
-  value = put_as _ _ _ _ (check-true _ _ _ c.if-number.true refl) (put-none _ _);
-  upper_bound = omega arith;
-}
+no_record (Refusal.Record f p) h = absurd (h f p refl)
+no_record _ h = refl
 
-pub returns : goal.returns
-unfolding record_text
-returns c =
+pub returns-in_default : goal.returns-in_default
+returns-in_default g c =
     record {
-      value = put_as _ _ _ _ (check-false _ _ _ c.if-number.false refl) c.put_labelled.ensures.value;
-      upper_bound = omega arith;
+      bytes = rw (no_record c.args.refusal c.in_default.not-Record) (sym (append-nil _));
+      len = omega arith;
     }

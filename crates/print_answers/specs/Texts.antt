@@ -1,11 +1,12 @@
 -- What run_drill prints of a call, and of a line that it cannot read.
-use Rattle.std.specs.Prelude.{ℕ, zero, suc, ◌+◌, ◌&&◌, List, [], ◌++◌, eqb, get_or}
+use Rattle.std.specs.Prelude.{ℕ, zero, suc, ◌+◌, ◌&&◌, List, [], ◌++◌, Option, Result, Some, None, Ok, Err, eqb, get_or}
 use Rattle.lists.specs.Limits.{member_limit}
 use Rattle.lists.specs.Checks.{check}
 use Rattle.lists.specs.Texts.{ascii}
 use Rattle.numbers.specs.Numbers.{labelled}
+use Rattle.refusal.specs.declared.Refusal.{Refusal}
+use Rattle.refusal.specs.Refusal.{number_of}
 use Rattle.waterfall.specs.declared.Allocation.{Allocation}
-use Rattle.waterfall.specs.declared.Reply.{Reply}
 
 -- "`unreadable line K`"
 unfoldable pub unreadable_text : ℕ → List ℕ
@@ -39,7 +40,7 @@ charges_text slip zero = []
 charges_text slip (suc k) = charges_text slip k ++ charge_text (k + 1) (get_or slip k 0) (get_or slip (k + member_limit) 0)
 
 -- what is printed of a call's answer, with the slip that the call left
-abbrev pub reply_text : Reply → List ℕ → List ℕ
-reply_text (Reply.Refused number) slip = labelled (ascii "refused ") number ++ ascii "\n"
-reply_text Reply.Accepted slip = ascii "accepted\n"
-reply_text (Reply.Allocated a) slip = allocation_text a ++ charges_text slip member_limit
+abbrev pub reply_text : Result (Option Allocation) Refusal → List ℕ → List ℕ
+reply_text (Err refusal) slip = labelled (ascii "refused ") (number_of refusal) ++ ascii "\n"
+reply_text (Ok None) slip = ascii "accepted\n"
+reply_text (Ok (Some a)) slip = allocation_text a ++ charges_text slip member_limit

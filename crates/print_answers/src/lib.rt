@@ -1,82 +1,89 @@
-// The answers of a drill as text, from the front of the buffer on. Each function answers how long the text is, or the place after it.
+// The answers of a drill as text.
 #![tactic(auto)]
 
-ghost use Rattle.std.specs.Prelude.{◌≡◌, ◌+◌, ◌*◌, ◌≤◌, length};
-ghost use Rattle.buffers.specs.Buffer.{written};
+ghost use Rattle.std.specs.Prelude.{◌≡◌, ◌+◌, ◌*◌, ◌≤◌, ◌++◌, length};
 ghost use Rattle.print_answers.specs.Texts.{unreadable_text, allocation_text, charge_text, charges_text, reply_text};
 
-use buffers::put_text;
 use lists::MEMBER_LIMIT;
-use numbers::{as_number, put_labelled, put_two, wide};
-use waterfall::{Allocation, Reply};
+use refusal::Refusal;
+use text::Text;
+use waterfall::Allocation;
 
-pub fn put_unreadable(out: &mut [u8], line: u64) -> usize
-    requires { 64 ≤ length out.old }
-    ensures value { (result ≡ length (unreadable_text line)) × (out.new ≡ written out.old 0 (unreadable_text line)) }
-    ensures upper_bound { result ≤ 64 }
+/// Puts that a line of the drill is unreadable.
+#[tactic(auto, unfolding(crate::specs::Texts::unreadable_text))]
+pub fn put_unreadable<const N: usize>(out: &mut Text<N>, line: u64)
+    requires { length out.old + 37 ≤ N }
+    ensures bytes { out.new ≡ out.old ++ unreadable_text line }
+    ensures len { length out.new ≤ length out.old + 37 }
 {
-    let at = put_labelled(out, 0, b"unreadable line ", line);
-    put_text(out, at, b"\n")
+    out.put_labelled(b"unreadable line ", line);
+    out.put(b"\n");
 }
 
-fn put_allocation(out: &mut [u8], a: Allocation) -> usize
-    requires { 200 ≤ length out.old }
-    ensures value { (result ≡ length (allocation_text a)) × (out.new ≡ written out.old 0 (allocation_text a)) }
-    ensures upper_bound { result ≤ 200 }
+#[tactic(auto, unfolding(crate::specs::Texts::allocation_text))]
+fn put_allocation<const N: usize>(out: &mut Text<N>, a: Allocation)
+    requires { length out.old + 200 ≤ N }
+    ensures bytes { out.new ≡ out.old ++ allocation_text a }
+    ensures len { length out.new ≤ length out.old + 200 }
 {
-    let b = put_two(out, 0, b"accepted fallen ", a.fallen, b" layers ", a.margin);
-    let c = put_two(out, b, b" ", a.contribution, b" ", a.tranche1);
-    let d = put_two(out, c, b" ", a.members, b" ", a.tranche2);
-    let e = put_two(out, d, b" ", a.calls, b" short ", a.short);
-    put_text(out, e, b"\n")
+    out.put_labelled(b"accepted fallen ", a.fallen);
+    out.put_labelled(b" layers ", a.margin);
+    out.put_labelled(b" ", a.contribution);
+    out.put_labelled(b" ", a.tranche1);
+    out.put_labelled(b" ", a.members);
+    out.put_labelled(b" ", a.tranche2);
+    out.put_labelled(b" ", a.calls);
+    out.put_labelled(b" short ", a.short);
+    out.put(b"\n");
 }
 
 // A member's charge and call, where it has one.
-fn put_charge(out: &mut [u8], at: usize, member: u64, charge: u64, call: u64) -> usize
-    requires { at + 87 ≤ length out.old }
-    ensures value { (result ≡ at + length (charge_text member charge call)) × (out.new ≡ written out.old at (charge_text member charge call)) }
-    ensures upper_bound { result ≤ at + 87 }
+#[tactic(auto, unfolding(crate::specs::Texts::charge_text, lists::specs::Checks::check))]
+fn put_charge<const N: usize>(out: &mut Text<N>, member: u64, charge: u64, call: u64)
+    requires { length out.old + 87 ≤ N }
+    ensures bytes { out.new ≡ out.old ++ charge_text member charge call }
+    ensures len { length out.new ≤ length out.old + 87 }
 {
     if (charge == 0) & (call == 0) {
-        return at;
+        return;
     }
-    let a = put_two(out, at, b"  member ", member, b" charged ", charge);
-    let b = put_labelled(out, a, b" called ", call);
-    put_text(out, b, b"\n")
+    out.put_labelled(b"  member ", member);
+    out.put_labelled(b" charged ", charge);
+    out.put_labelled(b" called ", call);
+    out.put(b"\n");
 }
 
 // What a slip says of each member.
-fn put_charges(out: &mut [u8], from: usize, slip: &[u64]) -> usize
-    requires { (from + 64 * 87 ≤ length out.old) × (128 ≤ length slip.now) }
-    ensures value { (result ≡ from + length (charges_text slip.now 64)) × (out.new ≡ written out.old from (charges_text slip.now 64)) }
-    ensures upper_bound { result ≤ from + 64 * 87 }
+#[tactic(auto, unfolding(crate::specs::Texts::charges_text))]
+fn put_charges<const N: usize>(out: &mut Text<N>, slip: &[u64])
+    requires { (length out.old + 64 * 87 ≤ N) × (128 ≤ length slip.now) }
+    ensures bytes { out.new ≡ out.old ++ charges_text slip.now 64 }
+    ensures len { length out.new ≤ length out.old + 64 * 87 }
 {
-    let mut at = from;
-    let mut i: usize = 0;
-    while i < MEMBER_LIMIT {
-        let charge = slip[i];
-        let call = slip[i + MEMBER_LIMIT];
-        at = put_charge(out, at, as_number(i + 1), charge, call);
-        i += 1;
+    for i in 0..MEMBER_LIMIT {
+        put_charge(out, i as u64 + 1, slip[i], slip[i + MEMBER_LIMIT]);
     }
-    at
 }
 
-// A call's answer, with the slip that the call left.
-pub fn put_reply(out: &mut [u8], reply: Reply, slip: &[u64]) -> usize
-    requires { (8192 ≤ length out.old) × (128 ≤ length slip.now) }
-    ensures value { (result ≡ length (reply_text reply slip.now)) × (out.new ≡ written out.old 0 (reply_text reply slip.now)) }
-    ensures upper_bound { result ≤ 8192 }
+/// Puts a call's answer, with the slip that the call left.
+pub fn put_reply<const N: usize>(
+    out: &mut Text<N>,
+    reply: Result<Option<Allocation>, Refusal>,
+    slip: &[u64],
+)
+    requires { (length out.old + 8192 ≤ N) × (128 ≤ length slip.now) }
+    ensures bytes { out.new ≡ out.old ++ reply_text reply slip.now }
+    ensures len { length out.new ≤ length out.old + 8192 }
 {
     match reply {
-        Reply::Refused(n) => {
-            let at = put_labelled(out, 0, b"refused ", wide(n));
-            put_text(out, at, b"\n")
+        Err(refusal) => {
+            out.put_labelled(b"refused ", u64::from(refusal.number()));
+            out.put(b"\n");
         }
-        Reply::Accepted => put_text(out, 0, b"accepted\n"),
-        Reply::Allocated(a) => {
-            let at = put_allocation(out, a);
-            put_charges(out, at, slip)
+        Ok(None) => out.put(b"accepted\n"),
+        Ok(Some(allocation)) => {
+            put_allocation(out, allocation);
+            put_charges(out, slip);
         }
     }
 }

@@ -1,18 +1,12 @@
-use mathlib.Core.Path.{refl}
-use native.Mathlib.Omega.{arith}
-use Rattle.buffers.proofs.Putting.{put-none, put_as, put_on}
+use Rattle.std.proofs.Common.{arith, add-one}
+use Rattle.text.proofs.Putting.{put_more}
 use Rattle.print_answers.specs.Texts.{charges_text}
-use borrow.Author.Rules.{rules}
 use Rattle.print_answers.proofs.put_charges.Goals as goal
-
-pub loop-i-init : goal.loop-i-init
-unfolding charges_text
-loop-i-init c = (omega arith, search rules, omega arith, put-none _ _)
 
 pub loop-i-preserved : goal.loop-i-preserved
 unfolding charges_text
-loop-i-preserved c =
-    let l = c.loop-i in
-    let s = c.args.slip.now in
-    let e = put_on (charges_text s) _ _ l.i _ refl l.invariant.3 (put_as _ _ _ _ (rw c.as_number.ensures) c.put_charge-at.ensures.value) (omega arith) in
-    (omega arith, omega arith, omega arith, e)
+loop-i-preserved g c =
+    record {
+      rows = rw add-one (put_more _ _ _ c.loop-i.invariant.rows c.put_charge.ensures.bytes);
+      len = omega arith;
+    }

@@ -1,13 +1,7 @@
--- `put_unreadable` meets its contract: the texts stand one behind the other.
-use native.Mathlib.Omega.{arith}
-use Rattle.buffers.proofs.Putting.{put_then, put_front}
+use Rattle.text.proofs.Putting.{put_more}
 use Rattle.print_answers.specs.Texts.{unreadable_text}
 use Rattle.print_answers.proofs.put_unreadable.Goals as goal
 
-pub returns : goal.returns
+pub returns-clause-bytes : goal.returns-clause-bytes
 unfolding unreadable_text
-returns c =
-    record {
-      value = put_front _ _ (put_then _ _ _ _ c.put_labelled-at.ensures.value c.put_text.ensures (omega arith));
-      upper_bound = omega arith;
-    }
+returns-clause-bytes g c = put_more _ _ _ c.put_labelled.ensures.bytes c.put.ensures.bytes

@@ -1,10 +1,11 @@
 -- What run_sizing prints.
-use Rattle.std.specs.Prelude.{ℕ, zero, suc, ◌+◌, List, [], ◌++◌, eqb, get_or}
+use Rattle.std.specs.Prelude.{ℕ, zero, suc, ◌+◌, List, [], ◌++◌, Result, Ok, Err, eqb, get_or}
 use Rattle.lists.specs.Limits.{member_limit}
-use Rattle.lists.specs.Checks.{check, refuses}
+use Rattle.lists.specs.Checks.{check}
 use Rattle.lists.specs.Texts.{ascii}
 use Rattle.numbers.specs.Numbers.{labelled}
 use Rattle.print_refusal.specs.Texts.{refusal_text}
+use Rattle.refusal.specs.declared.Refusal.{Refusal}
 use Rattle.sizing.specs.declared.Sized.{Sized}
 
 -- "`accepted C .. W .. A .. B .. b1 .. own .. D ..`"
@@ -33,7 +34,6 @@ requirements_text slip zero = []
 requirements_text slip (suc k) = requirements_text slip k ++ requirement_text (k + 1) (get_or slip k 0)
 
 -- what is printed of a sizing, with the slip that it left: "`refused N record P` for 4 to 8, `refused N` else"
-unfoldable pub sized_text : Sized → List ℕ → List ℕ
-sized_text s slip =
-    check (refuses s.refusal.number) (refusal_text s.refusal.number s.refusal.position)
-    (figures_text s ++ requirements_text slip member_limit)
+unfoldable pub sized_text : Result Sized Refusal → List ℕ → List ℕ
+sized_text (Err refusal) slip = refusal_text refusal
+sized_text (Ok s) slip = figures_text s ++ requirements_text slip member_limit

@@ -1,67 +1,70 @@
-// A sizing's answer as text, from the front of the buffer on. Each function answers how long the text is, or the place after it.
+// A sizing's answer as text.
 #![tactic(auto)]
 
-ghost use Rattle.std.specs.Prelude.{◌≡◌, ◌+◌, ◌*◌, ◌≤◌, length};
-ghost use Rattle.buffers.specs.Buffer.{written};
+ghost use Rattle.std.specs.Prelude.{◌≡◌, ◌+◌, ◌*◌, ◌≤◌, ◌++◌, length};
 ghost use Rattle.print_sizing.specs.Texts.{figures_text, requirement_text, requirements_text, sized_text};
 
-use buffers::put_text;
 use lists::MEMBER_LIMIT;
-use numbers::{as_number, put_labelled, put_two, wide};
 use print_refusal::put_refusal;
+use refusal::Refusal;
 use sizing::Sized;
+use text::Text;
 
-fn put_figures(out: &mut [u8], s: Sized) -> usize
-    requires { 200 ≤ length out.old }
-    ensures value { (result ≡ length (figures_text s)) × (out.new ≡ written out.old 0 (figures_text s)) }
-    ensures upper_bound { result ≤ 200 }
+#[tactic(auto, unfolding(crate::specs::Texts::figures_text))]
+fn put_figures<const N: usize>(out: &mut Text<N>, s: Sized)
+    requires { length out.old + 200 ≤ N }
+    ensures bytes { out.new ≡ out.old ++ figures_text s }
+    ensures len { length out.new ≤ length out.old + 200 }
 {
-    let a = put_two(out, 0, b"accepted C ", s.cover, b" W ", s.weak);
-    let b = put_two(out, a, b" A ", s.target, b" B ", s.minimum);
-    let c = put_two(out, b, b" b1 ", s.highest, b" own ", s.own);
-    let d = put_labelled(out, c, b" D ", s.quantum);
-    put_text(out, d, b"\n")
+    out.put_labelled(b"accepted C ", s.cover);
+    out.put_labelled(b" W ", s.weak);
+    out.put_labelled(b" A ", s.target);
+    out.put_labelled(b" B ", s.minimum);
+    out.put_labelled(b" b1 ", s.highest);
+    out.put_labelled(b" own ", s.own);
+    out.put_labelled(b" D ", s.quantum);
+    out.put(b"\n");
 }
 
 // A member's requirement, where it has one.
-fn put_requirement(out: &mut [u8], at: usize, member: u64, requirement: u64) -> usize
-    requires { at + 63 ≤ length out.old }
-    ensures value { (result ≡ at + length (requirement_text member requirement)) × (out.new ≡ written out.old at (requirement_text member requirement)) }
-    ensures upper_bound { result ≤ at + 63 }
+#[tactic(auto, unfolding(crate::specs::Texts::requirement_text, lists::specs::Checks::check))]
+fn put_requirement<const N: usize>(out: &mut Text<N>, member: u64, requirement: u64)
+    requires { length out.old + 63 ≤ N }
+    ensures bytes { out.new ≡ out.old ++ requirement_text member requirement }
+    ensures len { length out.new ≤ length out.old + 63 }
 {
     if requirement == 0 {
-        return at;
+        return;
     }
-    let end = put_two(out, at, b"  member ", member, b" requirement ", requirement);
-    put_text(out, end, b"\n")
+    out.put_labelled(b"  member ", member);
+    out.put_labelled(b" requirement ", requirement);
+    out.put(b"\n");
 }
 
 // What a slip says of each member.
-fn put_requirements(out: &mut [u8], from: usize, slip: &[u64]) -> usize
-    requires { (from + 64 * 63 ≤ length out.old) × (64 ≤ length slip.now) }
-    ensures value { (result ≡ from + length (requirements_text slip.now 64)) × (out.new ≡ written out.old from (requirements_text slip.now 64)) }
-    ensures upper_bound { result ≤ from + 64 * 63 }
+#[tactic(auto, unfolding(crate::specs::Texts::requirements_text))]
+fn put_requirements<const N: usize>(out: &mut Text<N>, slip: &[u64])
+    requires { (length out.old + 64 * 63 ≤ N) × (64 ≤ length slip.now) }
+    ensures bytes { out.new ≡ out.old ++ requirements_text slip.now 64 }
+    ensures len { length out.new ≤ length out.old + 64 * 63 }
 {
-    let mut at = from;
-    let mut i: usize = 0;
-    while i < MEMBER_LIMIT {
-        let requirement = slip[i];
-        at = put_requirement(out, at, as_number(i + 1), requirement);
-        i += 1;
+    for (place, requirement) in slip[..MEMBER_LIMIT].iter().enumerate() {
+        put_requirement(out, place as u64 + 1, *requirement);
     }
-    at
 }
 
-// A sizing's answer, with the slip that the sizing left.
-pub fn put_sized(out: &mut [u8], s: Sized, slip: &[u64]) -> usize
-    requires { (8192 ≤ length out.old) × (64 ≤ length slip.now) }
-    ensures value { (result ≡ length (sized_text s slip.now)) × (out.new ≡ written out.old 0 (sized_text s slip.now)) }
-    ensures upper_bound { result ≤ 8192 }
+/// Puts a sizing's answer, with the slip that the sizing left.
+#[tactic(auto, unfolding(crate::specs::Texts::sized_text))]
+pub fn put_sized<const N: usize>(out: &mut Text<N>, sized: Result<Sized, Refusal>, slip: &[u64])
+    requires { (length out.old + 8192 ≤ N) × (64 ≤ length slip.now) }
+    ensures bytes { out.new ≡ out.old ++ sized_text sized slip.now }
+    ensures len { length out.new ≤ length out.old + 8192 }
 {
-    let refusal = s.refusal;
-    if 0 < refusal.number {
-        return put_refusal(out, 0, wide(refusal.number), as_number(refusal.position));
+    match sized {
+        Err(refusal) => put_refusal(out, refusal),
+        Ok(figures) => {
+            put_figures(out, figures);
+            put_requirements(out, slip);
+        }
     }
-    let at = put_figures(out, s);
-    put_requirements(out, at, slip)
 }

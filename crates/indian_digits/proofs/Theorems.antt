@@ -12,7 +12,7 @@ use Rattle.lists.specs.Limits.{printed_limit}
 use Rattle.lists.specs.Texts.{ascii}
 use Rattle.lists.proofs.Checks.{check_by, both}
 use Rattle.numbers.specs.Numbers.{is_digit, all_digits, read_of, decimal_of}
-use Rattle.numbers.specs.declared.Number.{Number}
+use Rattle.std.specs.Prelude.{Some}
 use Rattle.numbers.proofs.Decimal.{decimal-few, decimal_all}
 use Rattle.numbers.proofs.Theorems.{read_print}
 use Rattle.indian_digits.specs.IndianDigits.{comma_before, with_commas, indian_of}
@@ -35,7 +35,7 @@ commas_dropped (d ∷ ds) h =
     rw (e.0, no_comma (comma_before (length ds)) (with_commas ds), commas_dropped ds e.1)
 
 -- the printed amount gives the number back
-pub amount_back : (n : ℕ) → n < 2 ^ 64 → read_of (digits_in (indian_of n)) ≡ Number.Value n
+pub amount_back : (n : ℕ) → n < 2 ^ 64 → read_of (digits_in (indian_of n)) ≡ Some n
 unfolding indian_of
 amount_back n h = rw (commas_dropped (decimal_of n) (decimal_all n)) (read_print n h)
 

@@ -5,13 +5,12 @@ use mathlib.Core.List.{List, [], ◌∷◌, ◌++◌}
 use native.Mathlib.Omega.{arith}
 use lib.ListN.{length, take, drop}
 use lib.Seq.{take_at}
-use Rattle.std.proofs.Common.{None}
+use Rattle.std.proofs.Common.{Option, Some, None}
 use Rattle.lists.specs.Limits.{amount_limit, printed_limit}
 use Rattle.lists.specs.Checks.{check}
 use Rattle.lists.specs.Texts.{ascii}
 use Rattle.lists.proofs.Cases.{append_apart}
 use Rattle.numbers.specs.Numbers.{read_of}
-use Rattle.numbers.specs.declared.Number.{Number}
 use Rattle.indian_digits.specs.IndianDigits.{indian_of}
 use Rattle.indian_digits.proofs.Theorems.{digits_in, amount_back, amount_fits}
 use Rattle.figures.proofs.Figures.{figure_bound}
@@ -35,16 +34,16 @@ unfolding digits_in check
 no-spaces zero s = refl
 no-spaces (suc k) s = no-spaces k s
 
-pub printed_back : (n : ℕ) → n ≤ printed_limit → read_of (digits_in (right_aligned (indian_of n))) ≡ Number.Value n
+pub printed_back : (n : ℕ) → n ≤ printed_limit → read_of (digits_in (right_aligned (indian_of n))) ≡ Some n
 printed_back n h = rw (no-spaces (20 - length (indian_of n)) (indian_of n)) (amount_back n (omega arith))
 
-abbrev number : Number → ℕ
-number (Number.Value n) = n
-number Number.NotANumber = 0
+abbrev value : Option ℕ → ℕ
+value (Some n) = n
+value None = 0
 
 amounts_apart : (m n : ℕ) → m ≤ printed_limit → n ≤ printed_limit → right_aligned (indian_of m) ≡ right_aligned (indian_of n) → m ≡ n
 amounts_apart m n h k e =
-    ap number (sym (printed_back m h) ∙ ap (λ (s : List ℕ). read_of (digits_in s)) e ∙ printed_back n k)
+    ap value (sym (printed_back m h) ∙ ap (λ (s : List ℕ). read_of (digits_in s)) e ∙ printed_back n k)
 
 -- the last row of two pages
 last_row : (above over name : List ℕ) (m n : ℕ) → length name ≤ 20 → m ≤ printed_limit → n ≤ printed_limit

@@ -1,99 +1,70 @@
-// A register as text. Each function answers the place after the text.
+// A register as text.
 #![tactic(auto)]
 
-ghost use Rattle.std.specs.Prelude.{◌≡◌, ◌+◌, ◌*◌, ◌≤◌, length};
-ghost use Rattle.buffers.specs.Buffer.{written};
-ghost use Rattle.print_register.specs.Texts.{status_text, name_text, member_text, members_text, register_text};
+ghost use Rattle.std.specs.Prelude.{◌≡◌, ◌+◌, ◌*◌, ◌≤◌, ◌++◌, length};
+ghost use Rattle.print_register.specs.Texts.{figures_text, row_text, members_text, register_text};
 
-use buffers::put_text;
-use figures::{ABSENT, IN_DEFAULT};
+use figures::Status;
 use lists::MEMBER_LIMIT;
-use numbers::{put_labelled, put_two};
+use text::Text;
 use waterfall::Register;
-use waterfall::view::{MemberView, member, tranches};
+use waterfall::view::MemberView;
 
-const MEMBERS: u64 = MEMBER_LIMIT as u64;
-
-fn put_status(out: &mut [u8], at: usize, status: u8) -> usize
-    requires { at + 8 ≤ length out.old }
-    ensures value { (result ≡ at + length (status_text status)) × (out.new ≡ written out.old at (status_text status)) }
-    ensures upper_bound { result ≤ at + 8 }
+// A member's figures, to the end of its row.
+#[tactic(auto, unfolding(crate::specs::Texts::figures_text))]
+fn put_figures<const N: usize>(out: &mut Text<N>, v: MemberView)
+    requires { length out.old + 182 ≤ N }
+    ensures bytes { out.new ≡ out.old ++ figures_text v }
+    ensures len { length out.new ≤ length out.old + 182 }
 {
-    if status == IN_DEFAULT {
-        return put_text(out, at, b" default");
-    }
-    put_text(out, at, b" live")
+    out.put_labelled(b" margin ", v.margin);
+    out.put_labelled(b" contribution ", v.contribution);
+    out.put_labelled(b" requirement ", v.requirement);
+    out.put_labelled(b" cap ", v.cap);
+    out.put_labelled(b" outstanding ", v.outstanding);
+    out.put_labelled(b" called ", v.called);
+    out.put(b"\n");
 }
 
-fn put_name(out: &mut [u8], at: usize, number: u64, status: u8) -> usize
-    requires { at + 37 ≤ length out.old }
-    ensures value { (result ≡ at + length (name_text number status)) × (out.new ≡ written out.old at (name_text number status)) }
-    ensures upper_bound { result ≤ at + 37 }
+// The row of a member, where it is in the register.
+#[tactic(auto, unfolding(crate::specs::Texts::row_text))]
+fn put_row<const N: usize>(out: &mut Text<N>, number: u64, v: MemberView)
+    requires { length out.old + 219 ≤ N }
+    ensures bytes { out.new ≡ out.old ++ row_text v.status number v }
+    ensures len { length out.new ≤ length out.old + 219 }
 {
-    let a = put_labelled(out, at, b"  member ", number);
-    put_status(out, a, status)
-}
-
-// A member's figures, where it is in the register.
-fn put_member(out: &mut [u8], at: usize, number: u64, v: MemberView) -> usize
-    requires { at + 219 ≤ length out.old }
-    ensures value { (result ≡ at + length (member_text number v)) × (out.new ≡ written out.old at (member_text number v)) }
-    ensures upper_bound { result ≤ at + 219 }
-{
-    if v.status == ABSENT {
-        return at;
-    }
-    let a = put_name(out, at, number, v.status);
-    let b = put_two(
-        out,
-        a,
-        b" margin ",
-        v.margin,
-        b" contribution ",
-        v.contribution,
-    );
-    let c = put_two(out, b, b" requirement ", v.requirement, b" cap ", v.cap);
-    let d = put_two(
-        out,
-        c,
-        b" outstanding ",
-        v.outstanding,
-        b" called ",
-        v.called,
-    );
-    put_text(out, d, b"\n")
+    let standing: &[u8] = match v.status {
+        Status::Absent => return,
+        Status::Live => b" live",
+        Status::InDefault => b" default",
+    };
+    out.put_labelled(b"  member ", number);
+    out.put(standing);
+    put_figures(out, v);
 }
 
 // The members of the sheet.
-fn put_members(out: &mut [u8], from: usize, register: Register) -> usize
-    requires { from + 64 * 219 ≤ length out.old }
-    ensures value { (result ≡ from + length (members_text register 64)) × (out.new ≡ written out.old from (members_text register 64)) }
-    ensures upper_bound { result ≤ from + 64 * 219 }
+#[tactic(auto, unfolding(crate::specs::Texts::members_text))]
+fn put_members<const N: usize>(out: &mut Text<N>, register: &Register)
+    requires { length out.old + 64 * 219 ≤ N }
+    ensures bytes { out.new ≡ out.old ++ members_text register.now 64 }
+    ensures len { length out.new ≤ length out.old + 64 * 219 }
 {
-    let mut at = from;
-    let mut i: u64 = 0;
-    while i < MEMBERS {
-        let view = member(register, i + 1);
-        at = put_member(out, at, i + 1, view);
-        i += 1;
+    for place in 0..MEMBER_LIMIT {
+        let number = place as u64 + 1;
+        put_row(out, number, register.member(number));
     }
-    at
 }
 
-pub fn put_register(out: &mut [u8], register: Register) -> usize
-    requires { 16384 ≤ length out.old }
-    ensures value { (result ≡ length (register_text register)) × (out.new ≡ written out.old 0 (register_text register)) }
-    ensures upper_bound { result ≤ 16384 }
+/// Puts a register.
+pub fn put_register<const N: usize>(out: &mut Text<N>, register: &Register)
+    requires { length out.old + 16384 ≤ N }
+    ensures bytes { out.new ≡ out.old ++ register_text register.now }
+    ensures len { length out.new ≤ length out.old + 16384 }
 {
-    let own = tranches(register);
-    let a = put_two(
-        out,
-        0,
-        b"register tranche1 ",
-        own.tranche1,
-        b" tranche2 ",
-        own.tranche2,
-    );
-    let b = put_text(out, a, b"\n");
-    put_members(out, b, register)
+    let own = register.tranches();
+    out.put_labelled(b"register tranche1 ", own.tranche1);
+    out.put_labelled(b" tranche2 ", own.tranche2);
+    out.put(b"\n");
+    put_members(out, register);
 }

@@ -1,12 +1,16 @@
 // Says whether a review is due: whether 100C is more than 80A.
 #![tactic(auto)]
 
-use numbers::Number;
 use std::io;
-use std::io::{Eprint, Print};
+use std::io::Print;
+use std::rt::Env;
 
-fn usage(rt: &impl Eprint) {
-    let _ = eprintln!(rt; "usage: review C A");
+// C and A, where these are the arguments.
+fn arguments(rt: &impl Env) -> Option<(u64, u64)> {
+    if files::arg_count(rt) != 3 {
+        return None;
+    }
+    Some((files::number_at(rt, 1)?, files::number_at(rt, 2)?))
 }
 
 fn answer(rt: &impl Print, due: bool) -> io::Result<()> {
@@ -17,16 +21,8 @@ fn answer(rt: &impl Print, due: bool) -> io::Result<()> {
 }
 
 fn main(rt: HostRuntime) {
-    if files::arg_count(&rt) != 3 {
-        usage(&rt);
-        return;
-    }
-    let Number::Value(cover) = files::number_at(&rt, 1) else {
-        usage(&rt);
-        return;
-    };
-    let Number::Value(target) = files::number_at(&rt, 2) else {
-        usage(&rt);
+    let Some((cover, target)) = arguments(&rt) else {
+        let _ = eprintln!(&rt; "usage: review C A");
         return;
     };
     if let Err(why) = answer(&rt, sizing::review_due(cover, target)) {

@@ -1,3 +1,4 @@
 -- The definitions that the contracts cite.
 pub mod IndianDigits
 pub mod Examples
+pub mod Parts

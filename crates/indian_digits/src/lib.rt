@@ -35,7 +35,7 @@ pub fn put_amount(out: &mut [u8], amount: u64)
     let mut begin = out.len();
     let mut left = amount;
     let mut following = 0;
-    // The place is counted down by hand: through a text and itoa a page took 1,576 instructions, and Rust takes 948.
+    // The place is counted down by hand: digit by digit from the front, by itoa and behind a text, a page takes a tenth more instructions.
     while 10 <= left {
         let tenth = left / 10;
         begin = put_digit(out, begin, (left - tenth * 10) as u8, following);

@@ -12,9 +12,8 @@ use Rattle.lists.specs.Checks.{check}
 use Rattle.lists.specs.Texts.{ascii}
 use Rattle.lists.proofs.Checks.{check_past, neither}
 use Rattle.waterfall.specs.declared.Allocation.{Allocation}
-use borrow.Rule.Slice.PartMut.{put_mid}
-use Rattle.std.proofs.Common.{take_at, drop_at}
-use Rattle.std.proofs.lemmas.List.{set_at, length-replicate, drop-replicate, replicate-append-replicate}
+use Rattle.std.proofs.Common.{take, ap, take_at, drop_at}
+use Rattle.std.proofs.lemmas.List.{set_at, replicate_more, length-replicate, drop-replicate, replicate-append-replicate}
 use Rattle.indian_digits.specs.IndianDigits.{indian_of}
 use Rattle.indian_digits.proofs.Theorems.{amount_fits}
 use Rattle.std.proofs.Common.{Option, Some, None, is_some, Result, Ok, Err}
@@ -113,24 +112,41 @@ module _ (name amount : List ℕ) (h : length name ≤ 20) (k : length amount �
   unfolding front gap
   front-length = omega (arith, length-append name (spaces gap), length-replicate {A = ℕ} gap 32)
 
-  behind : drop (40 - (40 - length amount)) (spaces (length amount + 1)) ≡ 32 ∷ []
-  behind =
-      let e : 40 - (40 - length amount) ≡ length amount = omega arith in
-      let f : length amount + 1 - length amount ≡ 1 = omega arith in
-      rw (e, drop-replicate {X = ℕ} (length amount) (length amount + 1) 32, f) refl
+  -- the row before the amount is put, and the column in which it goes
+  abbrev named : List ℕ
+  named = name ++ drop (length name) (spaces 41)
 
-  amount_put : put_mid (40 - length amount) (40 - (40 - length amount)) (name ++ drop (length name) (spaces 41)) amount ≡ (front ++ amount) ++ 32 ∷ []
-  amount_put =
-      let l = front-length in
-      rw (blank, take_at front _ (40 - length amount) l, drop_at front _ (40 - length amount) l, behind) (sym (append_assoc front amount _))
+  abbrev column : List ℕ
+  column = take 40 named
+
+  parts : named ≡ (front ++ spaces (length amount)) ++ 32 ∷ []
+  parts =
+      blank
+      ∙ ap (λ (s : List ℕ). front ++ s) (sym (replicate_more {X = ℕ} (length amount) 32))
+      ∙ sym (append_assoc front (spaces (length amount)) (32 ∷ []))
+
+  parts-length : length (front ++ spaces (length amount)) ≡ 40
+  parts-length = omega (arith, length-append front (spaces (length amount)), front-length, length-replicate {A = ℕ} (length amount) 32)
+
+  column_is : column ≡ front ++ spaces (length amount)
+  column_is = ap (take 40) parts ∙ take_at (front ++ spaces (length amount)) (32 ∷ []) 40 parts-length
+
+  pub column-length : 40 ≡ length column
+  column-length = sym (ap length column_is ∙ parts-length)
 
   aligned : front ++ amount ≡ left_aligned name ++ right_aligned amount
   unfolding front gap
-  aligned = rw (← replicate-append-replicate {A = ℕ} (20 - length name) (20 - length amount) 32) (simp append_assoc)
+  aligned =
+      rw (← replicate-append-replicate {A = ℕ} (20 - length name) (20 - length amount) 32) (simp append_assoc)
 
-  pub row_put : set (put_mid (40 - length amount) (40 - (40 - length amount)) (name ++ drop (length name) (spaces 41)) amount) 40 10 ≡ line (left_aligned name ++ right_aligned amount)
+  pub row_put : (out : List ℕ) → out ≡ take (length column - length amount) column ++ amount → set (out ++ drop 40 named) 40 10 ≡ line (left_aligned name ++ right_aligned amount)
   unfolding line
-  row_put = rw (amount_put, ← aligned) (set_at (front ++ amount) 32 [] 10 40 (omega (arith, length-append front amount, front-length)))
+  row_put out e =
+      let behind : drop 40 named ≡ 32 ∷ [] = ap (drop 40) parts ∙ drop_at (front ++ spaces (length amount)) (32 ∷ []) 40 parts-length in
+      let f : length column - length amount ≡ 40 - length amount = omega (arith, column-length) in
+      let before : take (length column - length amount) column ≡ front =
+      rw (f, column_is) (take_at front (spaces (length amount)) (40 - length amount) front-length) in
+      rw (e, behind, before, ← aligned) (set_at (front ++ amount) 32 [] 10 40 (omega (arith, length-append front amount, front-length)))
 
 -- what the test of a page answered
 accepted : {A : Type 0} {b : A} {o : Result A Refusal} (r : Option Refusal) (a : A) → o ≡ answered r a → o ≡ Ok b → r ≡ None

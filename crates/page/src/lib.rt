@@ -10,7 +10,6 @@ ghost use Rattle.page.specs.Parts.{Within};
 use indian_digits::put_amount;
 use lists::PRINTED_LIMIT;
 use refusal::Refusal;
-use text::Text;
 use waterfall::Allocation;
 
 // A row of 40 bytes, and byte 10 behind it.
@@ -45,16 +44,15 @@ fn printable(a: Allocation, size: usize) -> Result<(), Refusal>
     Ok(())
 }
 
-// A layer's line: its name at the left, its amount at the right.
+// A layer's line: its name at the left, its amount at the right. Inlined, since the names are constants.
+#[inline(always)]
 fn row(name: &[u8], amount: u64) -> [u8; LINE_LENGTH]
     requires { (length name.now ≤ 20) × (amount ≤ printed_limit) }
     ensures { result ≡ line (row_of name.now amount) }
 {
-    let mut right = Text::<20>::new();
-    put_amount(&mut right, amount);
     let mut row = [b' '; LINE_LENGTH];
     row[..name.len()].copy_from_slice(name);
-    row[40 - right.len()..40].copy_from_slice(right.as_bytes());
+    put_amount(&mut row[..40], amount);
     row[40] = b'\n';
     row
 }

@@ -1,44 +1,25 @@
 -- What the parts of `lines` promise each other. No rule of document 01 is here.
-use Rattle.std.specs.Prelude.{ℕ, ◌+◌, ◌*◌, ◌<◌, ◌≡◌, List, ◌++◌, eqb, ltb, length, take, drop}
-use Rattle.lists.specs.Limits.{member_limit, pool_limit}
-use Rattle.lists.specs.Checks.{check}
-use Rattle.words.specs.Words.{words_of}
-use Rattle.typed_ranks.specs.Pools.{to_slash, further_pools}
-use Rattle.typed_ranks.specs.Parts.{pools_from}
-use Rattle.admission.specs.declared.Pools.{Pools}
-use Rattle.drill.specs.declared.DrillCall.{DrillCall}
-use Rattle.lines.specs.Defaults.{loss_typed}
-use Rattle.lines.specs.declared.Pair.{Pair}
+use Rattle.std.specs.Prelude.{ℕ, ◌+◌, ◌<◌, ◌≡◌, List, length, set}
+use Rattle.typed_ranks.specs.Pools.{to_slash, further_pools, pools_from}
+use Rattle.lines.specs.Defaults.{loss_typed, ranks_of_pool, pools_in, ranks_beside}
 use Rattle.lines.specs.declared.Pool.{Pool}
+use Rattle.lines.specs.declared.Typed.{Typed}
 
--- a call with two numbers, by its name
-abbrev pub make_of : Pair → ℕ → ℕ → DrillCall
-make_of Pair.Payment = DrillCall.Payment
-make_of Pair.Replenishment = DrillCall.Replenishment
+-- what is known of a pool that can be used, the first of the pools that the words `all` say, where the words `left` are left
+pub record PoolRead (all : List (List ℕ)) (pool : Pool) (left : List (List ℕ)) : Type 0 where
+  pub loss : pool.loss ≡ loss_typed (to_slash all)
+  pub ranks : pool.ranks ≡ ranks_of_pool (to_slash all)
+  pub further : further_pools all ≡ pools_from pool.more left
+  pub fewer : length left < length all
 
--- one pool more, the loss in its own place
-abbrev pub loss_put : ℕ → ℕ → ℕ → ℕ → ℕ
-loss_put k place loss old = check (eqb k place) loss old
-
-unfoldable pub added : Pools → ℕ → Pools
-added pools loss =
+-- one pool more, in its own place; behind the fourth there is none
+abbrev pub added : Typed → ℕ → List ℕ → Typed
+added typed loss ranks =
     record {
-      count = pools.count + 1;
-      loss1 = loss_put pools.count 0 loss pools.loss1;
-      loss2 = loss_put pools.count 1 loss pools.loss2;
-      loss3 = loss_put pools.count 2 loss pools.loss3;
-      loss4 = loss_put pools.count 3 loss pools.loss4;
+      pools = record { count = typed.pools.count + 1; losses = set typed.pools.losses typed.pools.count loss };
+      ranks = set typed.ranks typed.pools.count ranks;
     }
 
--- what is known of a pool that can be used: its loss, the pools behind it, and that its words are some
-pub record PoolRead (line : List ℕ) (from : ℕ) (r : Pool) : Type 0 where
-  pub loss : r.loss ≡ loss_typed (to_slash (words_of (drop from line)))
-  pub behind : further_pools (words_of (drop from line)) ≡ pools_from r.more (words_of (drop r.end line))
-  pub ahead : from < r.end
-  pub within : from < length line
-
--- the ranks with those of the pool that has k before it
-unfoldable pub placed : ℕ → List ℕ → List ℕ → List ℕ
-placed k ranks these =
-    check (ltb k pool_limit) (take (k * member_limit) ranks ++ (these ++ drop (k * member_limit + member_limit) ranks))
-    ranks
+-- all the pools, and the ranks of the first four
+abbrev pub typed_in : List (List (List ℕ)) → Typed
+typed_in pools = record { pools = pools_in pools; ranks = ranks_beside pools }

@@ -5,6 +5,7 @@ use Rattle.std.specs.List.{prefix_len, onto_first}
 use borrow.Author.Tests.{eqb-true}
 use Rattle.lists.specs.Checks.{check}
 use Rattle.lists.proofs.Cases.{never}
+use Rattle.lists.proofs.Checks.{check_by}
 use Rattle.words.specs.Words.{is_space, in_word, goes_on, words_of}
 
 pub prefix_within : (p : ℕ → Bool) (s : List ℕ) → prefix_len p s ≤ length s
@@ -88,3 +89,19 @@ module _ (line s word rest : List ℕ) (e : s ≡ drop (prefix_len is_space line
 
   pub next_word : length word ≢ 0 → words_of line ≡ word ∷ words_of rest
   next_word h = rw (f, g) (same ∙ here.1 (omega (arith, long)))
+
+-- each word has a byte
+onto_length : (b : ℕ) (ws : List (List ℕ)) → length (onto_first b ws) ≤ length ws + 1
+onto_length b [] = omega arith
+onto_length b (w ∷ ws) = omega arith
+
+pub words_within : (s : List ℕ) → length (words_of s) ≤ length s
+unfolding words_of check
+words_within [] = omega arith
+words_within (b ∷ s) =
+    let P : List (List ℕ) → Type 0 = λ ws. length ws ≤ suc (length s) in
+    let ih = words_within s in
+    check_by P (b == 35) _ _ (λ _. omega arith)
+    (λ _. check_by P (b == 32) _ _ (λ _. omega (arith, ih))
+    (λ _. check_by P (goes_on s) _ _ (λ _. omega (arith, ih, onto_length b (words_of s)))
+    (λ _. omega (arith, ih))))

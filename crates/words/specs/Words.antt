@@ -1,8 +1,9 @@
 -- "Words are parted by one or more spaces." "`#` starts a comment that runs to the end of its line"
-use Rattle.std.specs.Prelude.{ℕ, ◌≡◌, refl, Bool, false, not, ◌||◌, List, [], ◌∷◌, ◌==◌}
+use Rattle.std.specs.Prelude.{ℕ, ◌≡◌, refl, Bool, false, not, ◌||◌, List, [], ◌∷◌, ◌==◌, Option, Some, None, Result, Ok, Err}
 use Rattle.std.specs.List.{onto_first}
 use Rattle.lists.specs.Checks.{check}
 use Rattle.lists.specs.Texts.{ascii}
+use Rattle.words.specs.declared.Unreadable.{Unreadable}
 
 abbrev pub is_space : ℕ → Bool
 is_space b = b == 32
@@ -32,3 +33,8 @@ two-words = refl
 no-words : words_of (ascii "  # n") ≡ []
 unfolding words_of check
 no-words = refl
+
+-- a line that says nothing that can be read is unreadable as a whole
+abbrev pub or_unreadable : {A : Type 0} → Option A → Result (Option A) Unreadable
+or_unreadable (Some said) = Ok (Some said)
+or_unreadable None = Err (record {})

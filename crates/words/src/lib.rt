@@ -1,7 +1,7 @@
 // The bytes of a line: a part of them, and its words.
 #![tactic(auto)]
 
-ghost use Rattle.std.specs.Prelude.{◌≡◌, ◌≤◌, ℕ, List, [], ◌∷◌, take, drop, MatchOption};
+ghost use Rattle.std.specs.Prelude.{◌≡◌, ◌≤◌, ◌<◌, ◌^◌, ℕ, List, [], ◌∷◌, length, take, drop, MatchOption};
 ghost use Rattle.std.specs.List.{prefix_len};
 ghost use Rattle.words.specs.Bytes.{part as Bytes·part};
 ghost use Rattle.words.specs.Words.{is_space, in_word, words_of};
@@ -22,7 +22,8 @@ pub fn part(s: &[u8], start: usize, end: usize) -> &[u8]
 }
 
 fn spaces(line: &[u8]) -> usize
-    ensures { result ≡ prefix_len is_space line.now }
+    ensures value { result ≡ prefix_len is_space line.now }
+    ensures countable { length line.now < 2 ^ 64 }
 {
     line.iter().take_while(|b| **b == b' ').count()
 }
@@ -39,7 +40,8 @@ fn word_length(line: &[u8]) -> usize
 /// The line without the spaces in front.
 #[tactic(auto, using(crate::proofs::Cutting::prefix_within))]
 pub fn trim_start(line: &[u8]) -> &[u8]
-    ensures { result.now ≡ drop (prefix_len is_space line.now) line.now }
+    ensures value { result.now ≡ drop (prefix_len is_space line.now) line.now }
+    ensures countable { length line.now < 2 ^ 64 }
 {
     &line[spaces(line)..]
 }
@@ -74,7 +76,8 @@ impl<'a> Words<'a> {
 
     /// The next word, where there is one.
     pub fn next(&mut self) -> Option<&'a [u8]>
-        ensures { MatchOption result ((self.old ≡ []) × (self.new ≡ [])) (λ word. self.old ≡ word.now ∷ self.new) }
+        ensures word { MatchOption result ((self.old ≡ []) × (self.new ≡ [])) (λ word. self.old ≡ word.now ∷ self.new) }
+        ensures countable { length self.old < 2 ^ 64 }
     {
         let (word, rest) = split_word(trim_start(self.rest));
         self.rest = rest;

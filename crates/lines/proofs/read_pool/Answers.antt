@@ -1,27 +1,35 @@
--- `read_pool` meets its contract.
-use mathlib.Core.Path.{sym, ◌∙◌}
-use native.Mathlib.Omega.{arith}
-use lib.ListN.{drop}
-use Rattle.lists.proofs.Cases.{never}
-use Rattle.words.specs.Words.{words_of}
-use Rattle.lines.proofs.Pooling.{pool-none, pool-some, pool_made}
+-- `read_pool` meets its contract: a pool begins with its loss.
+use Rattle.std.proofs.Common.{◌∙◌, sym, ap, length, arith}
+use Rattle.std.specs.Option.{is_some}
+use Rattle.typed_ranks.specs.TypedRanks.{unnamed, all_good, ranks_in, missing_ranks}
+use Rattle.typed_ranks.specs.Pools.{to_slash, further_pools}
+use Rattle.lines.proofs.Pooling.{number_none, number_some}
 use Rattle.lines.proofs.read_pool.Goals as goal
 
-pub returns-in_default : goal.returns-in_default
-returns-in_default c =
-    let a = c.args in
-    record { good_value = pool-none (words_of (drop a.from a.line.now)) (sym c.number_at-typed.ensures.number_value ∙ c.in_default.is); ranks_after = never; pool_read = never }
+pub returns-in_err-loss-clause-readable : goal.returns-in_err-loss-clause-readable
+returns-in_err-loss-clause-readable c =
+    ap is_some c.from_residual.ensures ∙ sym (number_none _ (sym c.in_err-loss.ensures.value))
 
-pub returns : goal.returns
-returns c =
-    let r = c.read_ranks-read.ensures in
-    let n = c.number_at-typed.ensures in
-    let ws = words_of (drop c.args.from c.args.line.now) in
-    let f = sym n.number_value ∙ c.in-Value.is in
-    let z = pool_made _ ws _ f n.line_value _ c.requires in
-    let w = n.from_lt_end (pool-some _ ws f) in
+pub returns-in_err-more-clause-readable : goal.returns-in_err-more-clause-readable
+returns-in_err-more-clause-readable c =
+    let begins = number_some c.args.words.now _ (sym c.in_ok-loss.ensures.value) in
+    ap is_some c.from_residual-in_err-more.ensures
+    ∙ c.in_err-more.ensures.readable
+    ∙ ap (λ ws. all_good unnamed (to_slash ws)) c.in_ok-loss.ensures.words_left
+    ∙ sym begins.readable
+
+pub returns-clause-readable : goal.returns-clause-readable
+returns-clause-readable c =
+    let begins = number_some c.args.words.now _ (sym c.in_ok-loss.ensures.value) in
+    c.in_ok-more.ensures.readable ∙ ap (λ ws. all_good unnamed (to_slash ws)) c.in_ok-loss.ensures.words_left ∙ sym begins.readable
+
+pub returns-clause-pool : goal.returns-clause-pool
+returns-clause-pool c =
+    let begins = number_some c.args.words.now _ (sym c.in_ok-loss.ensures.value) in
+    let left = c.in_ok-loss.ensures.words_left in
     record {
-      good_value = r.good_value ∙ z.0;
-      ranks_after = λ h. r.ranks_after h ∙ z.1;
-      pool_read = λ h. record { loss = z.2; behind = z.3 ∙ r.line_value h; ahead = omega (arith, w.0, r.from_le_end); within = omega (arith, w.0, w.1) };
+      loss = begins.loss;
+      ranks = c.in_ok-more.ensures.ranks_after ∙ ap (λ ws. ranks_in missing_ranks (to_slash ws)) left ∙ sym begins.ranks;
+      further = begins.further ∙ ap further_pools (sym left) ∙ c.in_ok-more.ensures.pools_behind;
+      fewer = omega (arith, begins.fewer, ap (λ ws. length ws) left, c.in_ok-more.ensures.words_taken);
     }

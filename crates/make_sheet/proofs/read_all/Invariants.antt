@@ -1,5 +1,0 @@
--- `read_all` ends: the turns are counted down.
-use Rattle.make_sheet.proofs.read_all.Given as goal
-
-abbrev pub decreases-loop-turns : goal.decreases-loop-turns
-decreases-loop-turns g l = l.turns

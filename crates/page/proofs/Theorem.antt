@@ -15,14 +15,13 @@ use Rattle.indian_digits.specs.IndianDigits.{indian_of}
 use Rattle.indian_digits.proofs.Theorems.{digits_in, amount_back, amount_fits}
 use Rattle.figures.proofs.Figures.{figure_bound}
 use Rattle.admission.proofs.Admitted.{pools_admitted}
-use Rattle.waterfall.specs.Register.{GivenBack}
+use Rattle.waterfall.specs.Register.{Register, GivenBack}
 use Rattle.waterfall.specs.Default.{fallen_call, allocation_of}
 use Rattle.waterfall.specs.Pools.{loss_together, pooled_charges, pooled_allocation, pooled_refusal}
 use Rattle.admission.specs.declared.Pools.{Pools}
 use Rattle.waterfall.proofs.Default.{placed}
 use Rattle.waterfall.proofs.Pooled.{pooled_layer4}
 use Rattle.waterfall.specs.declared.Allocation.{Allocation}
-use Rattle.waterfall.specs.declared.Register.{Register}
 use Rattle.page.specs.Parts.{Within}
 use Rattle.page.specs.Page.{spaces, left_aligned, right_aligned, row_of, heading, line, page_of, page_length, amounts_of, page_refusal, page_left, PrintAlike}
 use Rattle.page.proofs.Rows.{right-length, row-line-length, page-length, within, printable}
@@ -82,7 +81,7 @@ no_two_alike a b page other e =
 
 -- Every default's answer can be printed ---------------------------------------------
 
-pub answers-within : (r : Register) (member : ℕ) (pools : Pools) (ranks slip : List ℕ) → GivenBack r → pooled_refusal r member pools ranks slip ≡ 0 → Within (pooled_allocation r member pools ranks)
+pub answers-within : (r : Register) (member : ℕ) (pools : Pools) (ranks slip : List ℕ) → GivenBack r → pooled_refusal r member pools ranks slip ≡ None → Within (pooled_allocation r member pools ranks)
 unfolding pooled_allocation allocation_of pooled_refusal fallen_call
 answers-within r member pools ranks slip g e =
     let a = pools_admitted r.status member pools ranks (length slip) _ e in
@@ -99,7 +98,7 @@ answers-within r member pools ranks slip g e =
       short = omega (arith, fits, fallen, sum);
     }
 
-pub answers_print : (r : Register) (member : ℕ) (pools : Pools) (ranks slip : List ℕ) (size : ℕ) → GivenBack r → pooled_refusal r member pools ranks slip ≡ 0
+pub answers_print : (r : Register) (member : ℕ) (pools : Pools) (ranks slip : List ℕ) (size : ℕ) → GivenBack r → pooled_refusal r member pools ranks slip ≡ None
     → page_length ≤ size → page_refusal (pooled_allocation r member pools ranks) size ≡ None
 answers_print r member pools ranks slip size g e h =
     printable (pooled_allocation r member pools ranks) size (answers-within r member pools ranks slip g e) h

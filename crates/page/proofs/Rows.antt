@@ -12,7 +12,8 @@ use Rattle.lists.specs.Checks.{check}
 use Rattle.lists.specs.Texts.{ascii}
 use Rattle.lists.proofs.Checks.{check_past, neither}
 use Rattle.waterfall.specs.declared.Allocation.{Allocation}
-use Rattle.std.proofs.Common.{take, ap, take_at, drop_at}
+use Rattle.std.proofs.Math.ListN.{drop_of_length-le}
+use Rattle.std.proofs.Common.{append-nil, take, ap, take_at, drop_at}
 use Rattle.std.proofs.lemmas.List.{set_at, replicate_more, length-replicate, drop-replicate, replicate-append-replicate}
 use Rattle.indian_digits.specs.IndianDigits.{indian_of}
 use Rattle.indian_digits.proofs.Theorems.{amount_fits}
@@ -93,6 +94,12 @@ page-length a w =
 pub left_printed : (a : Allocation) (page : List ℕ) → page_refusal a (length page) ≡ None → page_left a page ≡ page_of a ++ drop page_length page
 unfolding page_left check
 left_printed a page e = rw e refl
+
+-- and one that is lent no byte more
+pub left_whole : (a : Allocation) (page : List ℕ) → Within a → length page ≡ page_length → page_left a page ≡ page_of a
+left_whole a page w e =
+    let behind : drop page_length page ≡ [] = drop_of_length-le page {i = page_length} (omega arith) in
+    left_printed a page (printable a (length page) w (omega arith)) ∙ rw behind (append-nil (page_of a))
 
 -- a row as it is put: the name in front of spaces, the amount over the last of them, and then the newline
 module _ (name amount : List ℕ) (h : length name ≤ 20) (k : length amount ≤ 20) where

@@ -15,7 +15,7 @@ use waterfall::Allocation;
 // A row of 40 bytes, and byte 10 behind it.
 const LINE_LENGTH: usize = 41;
 
-const PAGE_LENGTH: usize = 8 * LINE_LENGTH;
+pub const PAGE_LENGTH: usize = 8 * LINE_LENGTH;
 
 // Whether an amount is above what a page prints.
 fn excessive(a: Allocation) -> bool

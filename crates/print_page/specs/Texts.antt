@@ -1,17 +1,17 @@
 -- What run_drill prints of the line `page`.
-use Rattle.std.specs.Prelude.{ℕ, List}
+use Rattle.std.specs.Prelude.{ℕ, List, Option, Some, None, Ok, Err}
 use Rattle.lists.specs.Texts.{ascii}
-use Rattle.waterfall.specs.declared.Reply.{Reply}
+use Rattle.waterfall.specs.Reply.{Reply}
+use Rattle.waterfall.specs.declared.Allocation.{Allocation}
 use Rattle.page.specs.Page.{page_of}
-use Rattle.print_page.specs.declared.Latest.{Latest}
 
 -- "the latest accepted default": no other call has an allocation in its answer
-abbrev pub latest_of : Latest → Reply → Latest
-latest_of latest (Reply.Refused number) = latest
-latest_of latest Reply.Accepted = latest
-latest_of latest (Reply.Allocated a) = Latest.Default a
+abbrev pub latest_of : Option Allocation → Reply → Option Allocation
+latest_of latest (Err refusal) = latest
+latest_of latest (Ok None) = latest
+latest_of latest (Ok (Some a)) = Some a
 
 -- "the wall page of the latest accepted default, its eight lines; `no page` where there has been none"
-abbrev pub page_text : Latest → List ℕ
-page_text Latest.NoDefault = ascii "no page\n"
-page_text (Latest.Default a) = page_of a
+abbrev pub page_text : Option Allocation → List ℕ
+page_text None = ascii "no page\n"
+page_text (Some a) = page_of a

@@ -1,44 +1,46 @@
 // The page of the latest accepted default as run_drill prints it.
 #![tactic(auto)]
 
-ghost use Rattle.std.specs.Prelude.{◌≡◌, ◌≤◌, length};
-ghost use Rattle.buffers.specs.Buffer.{written};
+ghost use Rattle.std.specs.Prelude.{◌≡◌, ◌+◌, ◌≤◌, ◌++◌, length};
+ghost use Rattle.page.specs.Page.{page_length, page_of};
+ghost use Rattle.page.specs.Parts.{Within};
 ghost use Rattle.print_page.specs.Texts.{latest_of, page_text};
 ghost use Rattle.print_page.specs.Parts.{Printable};
 
-use buffers::put_text;
-use page::print;
+use page::{PAGE_LENGTH, print};
+use text::Text;
 use waterfall::{Allocation, Reply};
 
-// What the latest accepted default answered.
-#[derive(Clone, Copy)]
-pub enum Latest {
-    NoDefault,
-    Default(Allocation),
-}
-
-// The latest default when one more call has been answered.
-pub fn latest_of(latest: Latest, reply: Reply) -> Latest
+/// What the latest accepted default answered, if there has been one, once one more call has been answered.
+pub fn latest_of(latest: Option<Allocation>, reply: Reply) -> Option<Allocation>
     ensures { result ≡ latest_of latest reply }
 {
     match reply {
-        Reply::Refused(_) => latest,
-        Reply::Accepted => latest,
-        Reply::Allocated(a) => Latest::Default(a),
+        Ok(Some(allocation)) => Some(allocation),
+        Ok(None) => latest,
+        Err(_) => latest,
     }
 }
 
-// The text at the front of the buffer. Answers how long it is.
-pub fn put_page(out: &mut [u8], latest: Latest) -> usize
-    requires { (328 ≤ length out.old) × Printable latest }
-    ensures value { (result ≡ length (page_text latest)) × (out.new ≡ written out.old 0 (page_text latest)) }
-    ensures upper_bound { result ≤ 328 }
+fn put_allocation<const N: usize>(out: &mut Text<N>, allocation: Allocation)
+    requires { (length out.old + page_length ≤ N) × Within allocation }
+    ensures bytes { out.new ≡ out.old ++ page_of allocation }
+    ensures len { length out.new ≡ length out.old + page_length }
+{
+    let mut page = [0; PAGE_LENGTH];
+    // It is not refused, since its amounts are within what a page prints.
+    let _ = print(allocation, &mut page);
+    out.put(&page);
+}
+
+/// Puts the page of the latest default.
+pub fn put_page<const N: usize>(out: &mut Text<N>, latest: Option<Allocation>)
+    requires { (length out.old + 328 ≤ N) × Printable latest }
+    ensures bytes { out.new ≡ out.old ++ page_text latest }
+    ensures len { length out.new ≤ length out.old + 328 }
 {
     match latest {
-        Latest::NoDefault => put_text(out, 0, b"no page\n"),
-        Latest::Default(a) => {
-            print(a, out);
-            328
-        }
+        None => out.put(b"no page\n"),
+        Some(allocation) => put_allocation(out, allocation),
     }
 }

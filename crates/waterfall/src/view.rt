@@ -1,5 +1,6 @@
 // What a host prints of a register.
 ghost use Rattle.std.specs.Prelude.{◌≡◌};
+ghost use Rattle.waterfall.specs.Register.{GivenBack};
 ghost use Rattle.waterfall.specs.View.{figures_of, tranches_of};
 
 use crate::Register;
@@ -26,6 +27,13 @@ pub struct TranchesView {
 }
 
 impl Register {
+    /// What a caller's proof may rest on of every register. It does nothing.
+    pub fn given_back(&self)
+        ensures { GivenBack self.now }
+    {
+        let _ = &self.status;
+    }
+
     pub fn member(&self, member: u64) -> MemberView
         ensures { result ≡ figures_of self.now member }
     {

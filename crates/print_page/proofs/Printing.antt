@@ -9,6 +9,7 @@ use Rattle.waterfall.specs.declared.Allocation.{Allocation}
 use Rattle.waterfall.specs.declared.Outcome.{Outcome}
 use Rattle.drill.specs.Drill.{applied_of}
 use Rattle.drill.specs.declared.DrillCall.{DrillCall}
+use Rattle.page.proofs.Rows.{none_above}
 use Rattle.page.proofs.Theorem.{answers-within}
 use Rattle.print_page.specs.Texts.{latest_of}
 use Rattle.print_page.specs.Parts.{Printable}
@@ -22,7 +23,7 @@ judged_printable None r allocation next latest p f = f refl
 still_printable : (r : Register) (call : DrillCall) (ranks slip : List ℕ) (latest : Option Allocation) → GivenBack r → Printable latest → Printable (latest_of latest (applied_of r call ranks slip).reply)
 unfolding pooled_of payment_of replenishment_of close_of
 still_printable r (DrillCall.Default member pools) ranks slip latest g p =
-    judged_printable _ r _ _ latest p (λ e. answers-within r member pools ranks slip g e)
+    judged_printable _ r _ _ latest p (λ e. none_above _ (answers-within r member pools ranks slip g e))
 still_printable r (DrillCall.Payment member amount) ranks slip latest g p = judged_printable _ r _ _ latest p (λ _. p)
 still_printable r (DrillCall.Replenishment member amount) ranks slip latest g p = judged_printable _ r _ _ latest p (λ _. p)
 still_printable r DrillCall.Close ranks slip latest g p = judged_printable _ r _ _ latest p (λ _. p)

@@ -3,7 +3,6 @@
 
 ghost use Rattle.std.specs.Prelude.{◌≡◌, ◌+◌, ◌≤◌, ◌++◌, length};
 ghost use Rattle.page.specs.Page.{page_length, page_of};
-ghost use Rattle.page.specs.Parts.{Within};
 ghost use Rattle.print_page.specs.Texts.{latest_of, page_text};
 ghost use Rattle.print_page.specs.Parts.{Printable};
 
@@ -23,7 +22,7 @@ pub fn latest_of(latest: Option<Allocation>, reply: Reply) -> Option<Allocation>
 }
 
 fn put_allocation<const N: usize>(out: &mut Text<N>, allocation: Allocation)
-    requires { (length out.old + page_length ≤ N) × Within allocation }
+    requires { (length out.old + page_length ≤ N) × Printable (Some allocation) }
     ensures bytes { out.new ≡ out.old ++ page_of allocation }
     ensures len { length out.new ≡ length out.old + page_length }
 {

@@ -2,121 +2,140 @@
 // next read.
 #![tactic(auto)]
 
-ghost use Rattle.std.specs.Prelude.{◌≡◌, length};
-ghost use Rattle.words.specs.Bytes.{part};
-ghost use Rattle.waterfall.specs.Register.{GivenBack};
-ghost use Rattle.drill.specs.Drill.{applied_of};
+ghost use Rattle.std.specs.Prelude.{◌≡◌, ◌+◌, ◌≤◌, ◌++◌, length};
+ghost use Rattle.drill.specs.Drill.{applied_of, slip_left};
 ghost use Rattle.lines.specs.Defaults.{handed_of};
+ghost use Rattle.print_answers.specs.Texts.{reply_text};
+ghost use Rattle.print_page.specs.Parts.{Printable};
 
 use drill::DrillCall;
-use files::Sheet;
-use input::Progress;
-use lines::Line;
-use numbers::Number;
-use output::{make_room, put_page, put_register, put_reply, put_unreadable};
-use print_page::{Latest, latest_of};
+use input::{Lines, State};
+use lines::{Line, handed, read_line};
+use lists::MEMBER_LIMIT;
+use output::{make_room, write_out};
+use print_answers::{put_reply, put_unreadable};
+use print_page::{latest_of, put_page};
+use print_refusal::put_opening;
+use print_register::put_register;
+use std::io;
 use std::io::{Eprint, Input, Print};
-use waterfall::{Outcome, Register};
+use std::rt::Env;
+use text::Text;
+use waterfall::{Allocation, Register};
+use words::Unreadable;
 
-// A call, with those of the typed ranks that go with it.
-fn answer(register: Register, call: DrillCall, ranks: &[u8], slip: &mut [u64]) -> Outcome
-    requires { GivenBack register }
-    ensures value { result ≡ applied_of register call (part ranks.now 0 (handed_of call)) slip.old }
-    ensures given_back { GivenBack result.register }
-{
-    drill::apply(
-        register,
-        call,
-        words::part(ranks, 0, lines::handed(call)),
-        slip,
-    )
+// No answer is longer.
+const ANSWER_ROOM: usize = 16384;
+
+// A sheet is read as far as one record more than it may have: with that it is overlong.
+const SHEET_ROOM: usize = 16 * (MEMBER_LIMIT + 1);
+
+// A drill: its register as it stands, the latest default, ranks and slip of the latest call, and the answers that are not written yet.
+#[derive(Drop)]
+struct Drill {
+    register: Register,
+    latest: Option<Allocation>,
+    ranks: [[u8; 64]; 4],
+    slip: [u64; 128],
+    answers: Text<65536>,
+    ghost printable: { Printable latest },
 }
 
-// Answers the lines, behind the answers that are kept. The turns are counted down from a number that no run uses up.
-#[tactic(auto, using(print_page::proofs::Printing::latest_printable))]
-fn drill(
-    rt: &(impl Input + Print + Eprint),
-    first: Register,
-    opening: usize,
-    chunk: &mut [u8],
-    line: &mut [u8],
-    ranks: &mut [u8],
-    slip: &mut [u64],
-    out: &mut [u8],
-)
-    requires given_back { GivenBack first }
-    requires ranks_len { (length ranks.old ≡ 256) × (length slip.old ≡ 128) × (length out.old ≡ 65536) }
-{
-    let mut register = first;
-    let mut latest = Latest::NoDefault;
-    let mut p = Progress {
-        from: 0,
-        have: 0,
-        len: 0,
-        line: 1,
-        going: true,
-    };
-    let mut used = opening;
-    let mut turns = u64::MAX;
-    while turns > 0 {
-        let kept = make_room(rt, out, used, p);
-        if !kept.going {
-            return;
+impl Drill {
+    // The drill after its opening.
+    fn open(sheet: &[u8], own: u64) -> Self {
+        let opened = waterfall::opening::open(sheet, own);
+        let mut answers = Text::new();
+        put_opening(&mut answers, opened.refusal);
+        Drill {
+            register: opened.register,
+            latest: None,
+            ranks: [[255; 64]; 4],
+            slip: [0; 128],
+            answers,
         }
-        let at = kept.used;
-        let number = p.line;
-        let taken = input::take(rt, chunk, line, ranks, p);
-        let says = taken.says;
-        let progress = taken.progress;
-        p = progress;
-        used = match says {
-            Line::Blank => at,
-            Line::Unreadable => put_unreadable(out, at, number),
-            Line::Register => put_register(out, at, register),
-            Line::Page => put_page(out, at, latest),
-            Line::Call(call) => {
-                let done = answer(register, call, ranks, slip);
-                let reply = done.reply;
-                let after = done.register;
-                register = after;
-                latest = latest_of(latest, reply);
-                put_reply(out, at, reply, slip)
+    }
+
+    // Makes a call, with those of the ranks that go with it, and answers it.
+    #[tactic(auto, using(print_page::proofs::Printing::latest_printable))]
+    fn call(&mut self, call: DrillCall)
+        requires { length self.old.answers + 16384 ≤ 65536 }
+        ensures register_after { self.new.register ≡ (applied_of self.old.register call (handed_of call self.old.ranks) self.old.slip).register }
+        ensures answered { self.new.answers ≡ self.old.answers ++ reply_text (applied_of self.old.register call (handed_of call self.old.ranks) self.old.slip).reply (slip_left self.old.register call (handed_of call self.old.ranks) self.old.slip) }
+    {
+        self.register.given_back();
+        let done = drill::apply(
+            self.register,
+            call,
+            handed(call, &self.ranks),
+            &mut self.slip,
+        );
+        self.register = done.register;
+        self.latest = latest_of(self.latest, done.reply);
+        put_reply(&mut self.answers, done.reply, &self.slip);
+    }
+
+    fn answer(&mut self, line: Line)
+        requires { length self.old.answers + 16384 ≤ 65536 }
+    {
+        match line {
+            Line::Register => put_register(&mut self.answers, &self.register),
+            Line::Page => put_page(&mut self.answers, self.latest),
+            Line::Call(call) => self.call(call),
+        }
+    }
+
+    // Reads a line and answers it, where it says something.
+    fn take(&mut self, number: u64, line: &[u8])
+        requires { length self.old.answers + 16384 ≤ 65536 }
+    {
+        match read_line(line, &mut self.ranks) {
+            Ok(None) => {}
+            Ok(Some(line)) => self.answer(line),
+            Err(Unreadable) => put_unreadable(&mut self.answers, number),
+        }
+    }
+
+    // Takes the lines of the input. No input has more lines than the turns.
+    fn run(&mut self, rt: &(impl Input + Print + Eprint)) -> io::Result<()> {
+        let mut lines = Lines::new();
+        for _turn in 0..u64::MAX {
+            make_room(rt, &mut self.answers, ANSWER_ROOM)?;
+            let number = lines.number();
+            match lines.next() {
+                Some(Ok(line)) => self.take(number, line),
+                Some(Err(Unreadable)) => put_unreadable(&mut self.answers, number),
+                None => {
+                    write_out(rt, &mut self.answers)?;
+                    if lines.state() != State::Open {
+                        return Ok(());
+                    }
+                    lines.read_on(rt);
+                }
             }
-        };
-        turns -= 1;
+        }
+        Ok(())
     }
 }
 
-fn run(rt: &(impl Input + Print + Eprint), sheet: &[u8], own: u64) {
-    let opened = waterfall::opening::open(sheet, own);
-    let refusal = opened.refusal;
-    let register = opened.register;
-    let mut chunk = [0u8; 65536];
-    let mut line = [0u8; 4096];
-    let mut ranks = [255u8; 256];
-    let mut slip = [0u64; 128];
-    let mut out = [0u8; 65536];
-    let n = print_refusal::put_opening(&mut out, refusal);
-    drill(
-        rt, register, n, &mut chunk, &mut line, &mut ranks, &mut slip, &mut out,
-    );
-}
-
-fn usage(rt: &impl Eprint) {
-    let _ = eprintln!(rt; "usage: run_drill REGISTER G");
+// G, where it is the second of two arguments.
+fn arguments(rt: &impl Env) -> Option<u64> {
+    if files::arg_count(rt) != 3 {
+        return None;
+    }
+    files::number_at(rt, 2)
 }
 
 fn main(rt: HostRuntime) {
-    if files::arg_count(&rt) != 3 {
-        usage(&rt);
-        return;
-    }
-    let Number::Value(own) = files::number_at(&rt, 2) else {
-        usage(&rt);
+    let Some(own) = arguments(&rt) else {
+        let _ = eprintln!(&rt; "usage: run_drill REGISTER G");
         return;
     };
-    let mut sheet = [0u8; 1040];
-    if let Sheet::Read(n) = files::read_sheet(&rt, 1, &mut sheet) {
-        run(&rt, words::part(&sheet, 0, n), own);
+    let mut room = [0; SHEET_ROOM];
+    let Some(sheet) = files::read_sheet(&rt, 1, &mut room) else {
+        return;
+    };
+    if let Err(why) = Drill::open(sheet, own).run(&rt) {
+        let _ = eprintln!(&rt; "standard output: {why}");
     }
 }

@@ -10,7 +10,7 @@ ghost use Rattle.cells.specs.Cells.{without_return, content_of, trim_end, trimme
 use lists::MISSING_AMOUNT;
 use numbers::read_number;
 use std::marker::Model;
-use words::trim_start;
+use words::{find, trim_start};
 
 // The line without its CR.
 #[tactic(auto, using(lists::proofs::Checks::checks, crate::proofs::Cutting::no_return), unfolding(crate::specs::Cells::without_return))]
@@ -74,6 +74,8 @@ fn read_field(cell: &[u8], blank: u64, limit: u64) -> Option<u64>
     read_number(word).filter(|value| *value < limit)
 }
 
+// Three functions, since each has a type, a blank and a limit of its own: a generic one would be handed all three.
+
 /// What a cell of one byte says.
 pub fn read_byte(cell: &[u8]) -> Option<u8>
     ensures { result ≡ byte_of cell.now }
@@ -110,13 +112,6 @@ impl<'a> Model for Cells<'a> {
     ghost view = { λ cells. cells_left cells.rest };
 }
 
-fn comma(s: &[u8]) -> Option<usize>
-    ensures value { result ≡ position (λ b. b == 44) s.now }
-    ensures within { IfSome result (λ n. n < length s.now) }
-{
-    s.iter().position(|b| *b == b',')
-}
-
 impl<'a> Cells<'a> {
     pub fn of_line(line: &'a [u8]) -> Self
         ensures { result ≡ cells_of line.now }
@@ -129,7 +124,7 @@ impl<'a> Cells<'a> {
         ensures { MatchOption result ((self.old ≡ []) × (self.new ≡ [])) (λ cell. self.old ≡ cell.now ∷ self.new) }
     {
         let rest = self.rest?;
-        match comma(rest) {
+        match find(rest, b',') {
             Some(length) => {
                 self.rest = Some(&rest[length + 1..]);
                 Some(&rest[..length])

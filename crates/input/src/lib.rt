@@ -7,7 +7,7 @@ ghost use Rattle.input.specs.Lines.{length_of, IsNext};
 ghost use Rattle.std.specs.Option.{IfSome};
 
 use std::io::{Eprint, Input, Read};
-use words::Unreadable;
+use words::{Unreadable, find};
 
 /// A line may be so many bytes long. A longer one is unreadable as a whole.
 pub const LINE_LIMIT: usize = 4096;
@@ -36,19 +36,12 @@ impl State {
     }
 }
 
-fn to_newline(bytes: &[u8]) -> Option<usize>
-    ensures value { result ≡ position (λ b. b == 10) bytes.now }
-    ensures within { IfSome result (λ n. n < length bytes.now) }
-{
-    bytes.iter().position(|b| *b == b'\n')
-}
-
 // How long the line is that the bytes begin with, where they have its end. A last line may have no newline.
 fn line_length(bytes: &[u8], ended: bool) -> Option<usize>
     ensures value { result ≡ length_of ended bytes.now }
     ensures within { IfSome result (λ n. n ≤ length bytes.now) }
 {
-    match to_newline(bytes) {
+    match find(bytes, b'\n') {
         None if ended && !bytes.is_empty() => Some(bytes.len()),
         found => found,
     }

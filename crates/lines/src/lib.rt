@@ -23,7 +23,7 @@ pub enum Line {
     Call(DrillCall),
 }
 
-/// Ranks where none is given.
+// Ranks where none is given.
 const NO_RANKS: [[u8; 64]; 4] = [[255; 64]; 4];
 
 // The next word as a number. A word that is not there is no number.
@@ -73,7 +73,7 @@ struct Typed {
     ranks: [[u8; 64]; 4],
 }
 
-// One pool more. A fifth pool and more have no places.
+// One pool more. A fifth pool and more have no places. (A method that changes `self` is not proved: it learns no array's length where it writes none.)
 fn added(typed: Typed, pool: Pool) -> Typed
     requires { typed.pools.count + 1 < 2 ^ 64 }
     ensures { result ≡ added typed pool.loss pool.ranks }

@@ -10,7 +10,7 @@ ghost use Rattle.typed_ranks.specs.Pools.{is_slash, to_slash, further_pools, poo
 use cells::read_byte;
 use lists::MEMBER_LIMIT;
 use numbers::read_number;
-use words::Words;
+use words::{Words, find};
 
 const MEMBERS: u64 = MEMBER_LIMIT as u64;
 
@@ -21,19 +21,12 @@ struct Rank {
     rank: u8,
 }
 
-fn colon(word: &[u8]) -> Option<usize>
-    ensures value { result ≡ position (λ b. b == 58) word.now }
-    ensures within { IfSome result (λ n. n < length word.now) }
-{
-    word.iter().position(|b| *b == b':')
-}
-
 #[tactic(auto, unfolding(crate::specs::TypedRanks::rank_of, lists::specs::Checks::check))]
 fn read_rank(word: &[u8]) -> Option<Rank>
     ensures value { result ≡ rank_of word.now }
     ensures of_a_member { IfSome result (λ r. (0 < r.member) × (r.member ≤ 64)) }
 {
-    let colon = colon(word)?;
+    let colon = find(word, b':')?;
     let member = read_number(&word[..colon])?;
     let rank = read_byte(&word[colon + 1..])?;
     if member == 0 || MEMBERS < member {

@@ -1,8 +1,9 @@
 // The bytes of a line: a part of them, and its words.
 #![tactic(auto)]
 
-ghost use Rattle.std.specs.Prelude.{◌≡◌, ◌≤◌, ◌<◌, ◌^◌, ℕ, List, [], ◌∷◌, length, take, drop, MatchOption};
-ghost use Rattle.std.specs.List.{prefix_len};
+ghost use Rattle.std.specs.Prelude.{◌≡◌, ◌==◌, ◌<◌, ◌^◌, ℕ, List, [], ◌∷◌, length, take, drop, MatchOption};
+ghost use Rattle.std.specs.List.{prefix_len, position};
+ghost use Rattle.std.specs.Option.{IfSome};
 ghost use Rattle.words.specs.Bytes.{part as Bytes·part};
 ghost use Rattle.words.specs.Words.{is_space, in_word, words_of};
 
@@ -19,6 +20,14 @@ pub fn part(s: &[u8], start: usize, end: usize) -> &[u8]
     let to = end.min(s.len());
     let from = start.min(to);
     &s[from..to]
+}
+
+/// The first place of a byte.
+pub fn find(s: &[u8], byte: u8) -> Option<usize>
+    ensures value { result ≡ position (λ b. b == byte) s.now }
+    ensures within { IfSome result (λ place. place < length s.now) }
+{
+    s.iter().position(|b| *b == byte)
 }
 
 fn spaces(line: &[u8]) -> usize

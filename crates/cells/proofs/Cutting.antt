@@ -1,5 +1,6 @@
 -- Laws of a line cut at its commas.
-use Rattle.std.proofs.Common.{ℕ, suc, ◌+◌, ◌≤◌, ◌<◌, ◌≡◌, refl, ap, ◌∙◌, Bool, true, false, not, cond, List, [], ◌∷◌, length, take, drop, reverse, Some, None, nat_lt, arith}
+use Rattle.std.proofs.Common.{ℕ, suc, ◌+◌, ◌≤◌, ◌<◌, ◌≡◌, refl, ap, ◌∙◌, Bool, true, false}
+use Rattle.std.proofs.Common.{not, cond, List, [], ◌∷◌, length, take, drop, reverse, Some, None, nat_lt, arith}
 use Rattle.std.specs.List.{suffix_len, position, position_or_len, onto_first, slice_split}
 use Rattle.std.proofs.lemmas.List.{length-reverse}
 use borrow.Author.Tests.{ltb-true, ltb-false}

@@ -18,7 +18,8 @@ module _ (found : Option ℕ) (bytes : List ℕ) where
     next_line h line f = rw e (h, f)
 
 -- the front of a part
-pub part_front : (bytes : List ℕ) (from have n : ℕ) → n ≤ length (part bytes from have) → take (from + n - from) (drop from bytes) ≡ take n (part bytes from have)
+pub part_front : (bytes : List ℕ) (from have n : ℕ) → n ≤ length (part bytes from have)
+    → take (from + n - from) (drop from bytes) ≡ take n (part bytes from have)
 part_front bytes from have n h =
     let e : from + n - from ≡ n = omega arith in
     rw e (sym (take-take n (have - from) (drop from bytes) (omega (arith, length-take (have - from) (drop from bytes)))))

@@ -19,7 +19,8 @@ abbrev pub behind : List (List ℕ) → List (List ℕ)
 behind [] = []
 behind (w ∷ ws) = ws
 
--- a pool is "its own loss and ranks": "a pool without a loss, or two ranks for one member in one pool, make the line unreadable", and so does "something that is no number"
+-- a pool is "its own loss and ranks": "a pool without a loss, or two ranks for one member in one pool, make the line unreadable", and so does
+-- "something that is no number"
 abbrev pub is_readable : List (List ℕ) → Bool
 is_readable pool = is_some (number_in pool) && all_good unnamed (behind pool)
 
@@ -51,11 +52,11 @@ abbrev pub no_ranks : List (List ℕ)
 no_ranks = replicate pool_limit missing_ranks
 
 -- the call and the ranks beside it, by the member and the pools
-unfoldable pub default_typed : Option ℕ → List (List (List ℕ)) → Option DrillCall
+abbrev pub default_typed : Option ℕ → List (List (List ℕ)) → Option DrillCall
 default_typed (Some member) pools = check (all_readable pools) (Some (DrillCall.Default member (pools_in pools))) None
 default_typed None pools = None
 
-unfoldable pub ranks_typed : Option ℕ → List (List (List ℕ)) → List (List ℕ)
+abbrev pub ranks_typed : Option ℕ → List (List (List ℕ)) → List (List ℕ)
 ranks_typed (Some member) pools = check (all_readable pools) (ranks_beside pools) no_ranks
 ranks_typed None pools = no_ranks
 

@@ -9,7 +9,7 @@ use Rattle.cells.specs.Cells.{trimmed, field_of}
 use Rattle.typed_ranks.specs.TypedRanks.{rank_of, missing_ranks}
 use Rattle.typed_ranks.specs.Pools.{pools_of}
 use Rattle.drill.specs.declared.DrillCall.{DrillCall}
-use Rattle.lines.specs.Defaults.{no_ranks, default_typed, ranks_typed, default_line, default_ranks}
+use Rattle.lines.specs.Defaults.{no_ranks, default_line, default_ranks}
 use Rattle.lines.specs.Lines.{said_of, ranks_for, line_of, ranks_of}
 use Rattle.lines.specs.declared.Line.{Line}
 
@@ -25,10 +25,11 @@ pub readable :
     (line_of (ascii "default 1 50 2:1") ≡ called 1 50 0 0 0)
     × (line_of (ascii "default 1 50 2:1 3:2 / 70 3:4") ≡ called 2 50 70 0 0)
     × (line_of (ascii "default 1 5 / 6 / 7 / 8 / 9 2:1") ≡ called 5 5 6 7 8)
-unfolding said_of default_line default_typed pools_of words_of read_of rank_of field_of trimmed check
+unfolding said_of default_line pools_of words_of read_of rank_of field_of trimmed check
 readable = (refl, refl, refl)
 
--- "a pool without a loss, or two ranks for one member in one pool, make the line unreadable"; so does a bad word in a fifth pool, and a `/` that is no word by itself
+-- "a pool without a loss, or two ranks for one member in one pool, make the line unreadable"; so does a bad word in a fifth pool,
+-- and a `/` that is no word by itself
 pub unreadable :
     (line_of (ascii "default 1 5 2:1 /") ≡ unread)
     × (line_of (ascii "default 1 5 / / 6") ≡ unread)
@@ -37,7 +38,7 @@ pub unreadable :
     × (line_of (ascii "default 1 5 / 6 2:1 2:3") ≡ unread)
     × (line_of (ascii "default 1 5 / 6 / 7 / 8 / 9 2:x") ≡ unread)
     × (line_of (ascii "default 1 5 /6") ≡ unread)
-unfolding said_of default_line default_typed pools_of words_of read_of rank_of field_of trimmed check
+unfolding said_of default_line pools_of words_of read_of rank_of field_of trimmed check
 unreadable = (refl, refl, refl, refl, refl, refl, refl)
 
 -- members 2 and 3 have places 1 and 2, and member 3 in the second pool; a fifth pool has no places, and neither has an unreadable line
@@ -45,5 +46,5 @@ pub ranks :
     (ranks_of (ascii "default 1 50 2:1 3:2 / 70 3:4") ≡ set (set no_ranks 0 (set (set missing_ranks 1 1) 2 2)) 1 (set missing_ranks 2 4))
     × (ranks_of (ascii "default 1 5 / 6 / 7 / 8 / 9 2:1") ≡ no_ranks)
     × (ranks_of (ascii "default 1 5 2:1 /") ≡ no_ranks)
-unfolding ranks_for default_ranks ranks_typed pools_of words_of read_of rank_of field_of trimmed check
+unfolding ranks_for default_ranks pools_of words_of read_of rank_of field_of trimmed check
 ranks = (refl, refl, refl)

@@ -4,7 +4,8 @@
 ghost use Rattle.std.specs.Prelude.{◌≡◌, ◌<◌, ◌≤◌, ◌+◌, ◌^◌, length};
 ghost use Rattle.std.specs.Option.{IfSome, is_some};
 ghost use Rattle.typed_ranks.specs.Pools.{to_slash, further_pools, pools_from, pools_of};
-ghost use Rattle.lines.specs.Defaults.{number_in, behind, is_readable, loss_typed, ranks_of_pool, all_readable, pools_in, ranks_beside, no_ranks, default_line, default_ranks, handed_of};
+ghost use Rattle.lines.specs.Defaults.{number_in, behind, is_readable, all_readable};
+ghost use Rattle.lines.specs.Defaults.{no_ranks, default_line, default_ranks, handed_of};
 ghost use Rattle.lines.specs.Lines.{pair_of, alone, other_line, said_of, ranks_for, line_of, ranks_of};
 ghost use Rattle.lines.specs.Parts.{PoolRead, added, typed_in};
 
@@ -112,7 +113,7 @@ fn read_pools(words: &mut Words) -> Option<Typed>
 }
 
 // What follows `default`.
-#[tactic(auto, unfolding(lists::specs::Checks::check, crate::specs::Defaults::default_line, crate::specs::Defaults::default_ranks, crate::specs::Defaults::default_typed, crate::specs::Defaults::ranks_typed))]
+#[tactic(auto, unfolding(lists::specs::Checks::check, crate::specs::Defaults::default_line, crate::specs::Defaults::default_ranks))]
 fn default_line(words: &mut Words, ranks: &mut [[u8; 64]; 4]) -> Option<DrillCall>
     requires { ranks.old ≡ no_ranks }
     ensures value { result ≡ default_line words.old }

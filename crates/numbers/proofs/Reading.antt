@@ -32,7 +32,8 @@ pub done : (s : List ℕ) (v i : ℕ) → length s ≤ i → v < 2 ^ 64 → read
 done s v i h k = rw (drop_of_length-le s h) (sym (check-true _ _ (ltb v (2 ^ 64)) (lt-ltb _ _ k) refl))
 
 -- a digit goes into the value
-pub digit : (s : List ℕ) (v i : ℕ) → i < length s → is_digit (get_or s i 0) ≡ true → read_from v (drop i s) ≡ read_from (v * 10 + (get_or s i 0 - 48)) (drop (i + 1) s)
+pub digit : (s : List ℕ) (v i : ℕ) → i < length s → is_digit (get_or s i 0) ≡ true
+    → read_from v (drop i s) ≡ read_from (v * 10 + (get_or s i 0 - 48)) (drop (i + 1) s)
 digit s v i h p = rw (drop_next s i h, p) refl
 
 -- a byte that is no digit

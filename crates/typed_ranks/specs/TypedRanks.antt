@@ -1,5 +1,6 @@
 -- Ranks as they are typed: "each `M:R` gives a rank. A member that is not named, or is named as `M:` with a blank rank, has the missing rank 255"
-use Rattle.std.specs.Prelude.{ℕ, ◌+◌, ◌-◌, ◌≡◌, refl, Bool, true, false, not, ◌||◌, ◌&&◌, List, [], ◌∷◌, ◌==◌, ltb, Option, Some, None, get_or, take, drop, set, replicate}
+use Rattle.std.specs.Prelude.{ℕ, ◌+◌, ◌-◌, ◌≡◌, refl, Bool, true, false, not, ◌||◌, ◌&&◌, List}
+use Rattle.std.specs.Prelude.{[], ◌∷◌, ◌==◌, ltb, Option, Some, None, get_or, take, drop, set, replicate}
 use Rattle.std.specs.List.{position}
 use Rattle.lists.specs.Limits.{member_limit}
 use Rattle.lists.specs.Checks.{check}

@@ -1,5 +1,6 @@
 -- Laws of the words of a line: its first word, and those behind it.
-use Rattle.std.proofs.Common.{ℕ, suc, ◌+◌, ◌≤◌, ◌<◌, ◌≡◌, ◌≢◌, refl, sym, ap, ◌∙◌, Bool, true, false, not, ◌||◌, cond, List, [], ◌∷◌, length, take, drop, ◌==◌, arith}
+use Rattle.std.proofs.Common.{ℕ, suc, ◌+◌, ◌≤◌, ◌<◌, ◌≡◌, ◌≢◌, refl, sym, ap, ◌∙◌, arith}
+use Rattle.std.proofs.Common.{Bool, true, false, not, ◌||◌, cond, List, [], ◌∷◌, length, take, drop, ◌==◌}
 use lib.Seq.{length-take-le}
 use Rattle.std.specs.List.{prefix_len, onto_first}
 use borrow.Author.Tests.{eqb-true}
@@ -24,7 +25,8 @@ unfolding words_of check
 words_behind [] = refl
 words_behind (b ∷ s) = go (b == 32) refl (words_behind s)
   where
-    go : (x : Bool) → (b == 32) ≡ x → words_of s ≡ words_of (drop (prefix_len is_space s) s) → words_of (b ∷ s) ≡ words_of (drop (cond x (1 + prefix_len is_space s) 0) (b ∷ s))
+    go : (x : Bool) → (b == 32) ≡ x → words_of s ≡ words_of (drop (prefix_len is_space s) s)
+        → words_of (b ∷ s) ≡ words_of (drop (cond x (1 + prefix_len is_space s) 0) (b ∷ s))
     go true e ih = rw (eqb-true b 32 e, drop_one) ih
     go false e ih = refl
 
@@ -65,13 +67,15 @@ unfolding words_of check
 found [] h = (λ _. refl, λ l. absurd (omega arith))
 found (b ∷ s) h = go (b == 35) refl (goes_on s) refl (found s)
   where
-    go : (x : Bool) → (b == 35) ≡ x → (z : Bool) → goes_on s ≡ z → (in_front s ≡ false → Found s (prefix_len in_word s)) → Found (b ∷ s) (prefix_len in_word (b ∷ s))
+    go : (x : Bool) → (b == 35) ≡ x → (z : Bool) → goes_on s ≡ z → (in_front s ≡ false → Found s (prefix_len in_word s))
+        → Found (b ∷ s) (prefix_len in_word (b ∷ s))
     go true e z g f = rw (e, h) (λ _. refl, λ l. absurd (omega arith))
     go false e true g f = rw (e, h, g, take_one, drop_one) (λ l. absurd (omega arith), λ _. ap (onto_first b) ((f (goes s g)).1 (starts s g)))
     go false e false g f = rw (e, h, g, stops s g) (λ l. absurd (omega arith), λ _. refl)
 
 -- the words of a line, by what stands behind the spaces in front of it
-module _ (line s word rest : List ℕ) (e : s ≡ drop (prefix_len is_space line) line) (f : word ≡ take (prefix_len in_word s) s) (g : rest ≡ drop (prefix_len in_word s) s) where
+module _ (line s word rest : List ℕ) (e : s ≡ drop (prefix_len is_space line) line)
+    (f : word ≡ take (prefix_len in_word s) s) (g : rest ≡ drop (prefix_len in_word s) s) where
   here : Found s (prefix_len in_word s)
   here = found s (ap in_front e ∙ none_in_front line)
 

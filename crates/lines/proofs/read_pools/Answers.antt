@@ -19,13 +19,15 @@ pub returns-then-not-pool-clause-readable : goal.returns-then-not-pool-clause-re
 returns-then-not-pool-clause-readable c =
     let l = c.loop-pool in
     let known = c.in_ok-pool.ensures in
-    (reading_done _ _ (reading_turn _ l.typed _ l.words _ _ l.invariant.reading known.readable known.pool c.added-typed.ensures false (not-true _ c.if-not-pool.true))).0
+    (reading_done _ _
+    (reading_turn _ l.typed _ l.words _ _ l.invariant.reading known.readable known.pool c.added-typed.ensures false (not-true _ c.if-not-pool.true))).0
 
 pub returns-then-not-pool-clause-typed : goal.returns-then-not-pool-clause-typed
 returns-then-not-pool-clause-typed c =
     let l = c.loop-pool in
     let known = c.in_ok-pool.ensures in
-    (reading_done _ _ (reading_turn _ l.typed _ l.words _ _ l.invariant.reading known.readable known.pool c.added-typed.ensures false (not-true _ c.if-not-pool.true))).1
+    (reading_done _ _
+    (reading_turn _ l.typed _ l.words _ _ l.invariant.reading known.readable known.pool c.added-typed.ensures false (not-true _ c.if-not-pool.true))).1
 
 pub loop-pool-preserved : goal.loop-pool-preserved
 loop-pool-preserved c =

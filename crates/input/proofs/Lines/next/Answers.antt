@@ -7,11 +7,13 @@ use Rattle.input.proofs.Lines.next.Goals as goal
 
 pub returns-in_err-length : goal.returns-in_err-length
 returns-in_err-length c =
-    next_none _ _ (ap (λ ended. length_of ended (rest_of c.args.self.now)) (sym c.has_ended.ensures) ∙ sym c.in_err-length.ensures.value) _ c.from_residual.ensures
+    next_none _ _
+    (ap (λ ended. length_of ended (rest_of c.args.self.now)) (sym c.has_ended.ensures) ∙ sym c.in_err-length.ensures.value) _ c.from_residual.ensures
 
 pub returns-then-length-gt-LINE_LIMIT : goal.returns-then-length-gt-LINE_LIMIT
 returns-then-length-gt-LINE_LIMIT c =
-    next_long _ _ _ (ap (λ ended. length_of ended (rest_of c.args.self.now)) (sym c.has_ended.ensures) ∙ sym c.in_ok-length.ensures.value) c.if-length-gt-LINE_LIMIT.true _
+    next_long _ _ _
+    (ap (λ ended. length_of ended (rest_of c.args.self.now)) (sym c.has_ended.ensures) ∙ sym c.in_ok-length.ensures.value) c.if-length-gt-LINE_LIMIT.true _
 
 pub returns : goal.returns
 returns c =

@@ -97,7 +97,8 @@ module _ (all : List (List (List ℕ))) (typed : Typed) where
 
 -- a pool more is read, and those behind it are left
 pub reading_turn : (all : List (List (List ℕ))) (typed next : Typed) (ws left : List (List ℕ)) (pool : Pool)
-    → Reading all (pools_of ws) typed → true ≡ is_readable (to_slash ws) → PoolRead ws pool left → next ≡ added typed pool.loss pool.ranks → (more : Bool) → pool.more ≡ more → Reading all (pools_from more left) next
+    → Reading all (pools_of ws) typed → true ≡ is_readable (to_slash ws) → PoolRead ws pool left → next ≡ added typed pool.loss pool.ranks
+    → (more : Bool) → pool.more ≡ more → Reading all (pools_from more left) next
 unfolding pools_of
 reading_turn all typed next ws left pool i h known g more e =
     let further : further_pools ws ≡ pools_from more left = known.further ∙ ap (λ m. pools_from m left) e in

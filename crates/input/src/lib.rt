@@ -1,7 +1,7 @@
 // The lines of standard input, taken one by one.
 #![tactic(auto)]
 
-ghost use Rattle.std.specs.Prelude.{◌≡◌, ◌==◌, ◌<◌, ◌≤◌, [], length};
+ghost use Rattle.std.specs.Prelude.{◌≡◌, ◌==◌, ◌<◌, ◌≤◌, [], false, min, length, take};
 ghost use Rattle.std.specs.List.{position};
 ghost use Rattle.input.specs.Lines.{length_of, IsNext};
 ghost use Rattle.std.specs.Option.{IfSome};
@@ -105,7 +105,8 @@ impl Lines {
 
     /// Reads on behind the bytes that are there. Of a line that is too long already, one byte more than it may have stands for the whole.
     pub fn read_on(&mut self, rt: &(impl Input + Eprint))
-        ensures { self.new.number ≡ self.old.number }
+        ensures same_line { self.new.number ≡ self.old.number }
+        ensures more_or_ended { has_ended self.new.state ≡ false → min (length (rest_of self.old)) 4097 < length (rest_of self.new) }
     {
         let kept = (self.have - self.from).min(LINE_LIMIT + 1);
         self.bytes.copy_within(self.from..self.from + kept, 0);

@@ -1,166 +1,138 @@
-// Reads the lines of the test program `refusals`: what stands before a byte and from it on, the numbers, and bytes in hexadecimal.
+// Reads the lines of the test program `refusals`: what a line calls, with its numbers, and bytes in hexadecimal.
 #![tactic(auto)]
 
-ghost use Rattle.std.specs.Prelude.{◌≡◌, ◌≤◌, length};
+ghost use Rattle.std.specs.Prelude.{◌≡◌, ◌==◌, IfSome, ◌≤◌, drop, length};
+ghost use Rattle.std.specs.List.{before_first, position_or_len};
 
 use admission::Pools;
+use drill::DrillCall;
+use numbers::read_number;
+use words::find;
 
-pub fn before(s: &[u8], byte: u8) -> &[u8]
-    ensures { length result.now ≤ length s.now }
-{
-    let at = words::find_byte(s, 0, s.len(), byte);
-    &s[0..at]
+/// What a line calls.
+#[derive(Clone, Copy)]
+pub enum Called {
+    /// A sizing with the prevailing minimum, our own money available, and how many numbers the slip has.
+    Size {
+        prevailing: u64,
+        available: u64,
+        slip: usize,
+    },
+    /// An opening with our own contribution.
+    Open {
+        own: u64,
+    },
+    /// A drill call, how many ranks are handed over, and how many numbers the slip has.
+    Drill {
+        call: DrillCall,
+        ranks: usize,
+        slip: usize,
+    },
 }
 
-// From the byte on.
-pub fn from(s: &[u8], byte: u8) -> &[u8]
-    ensures { length result.now ≤ length s.now }
-{
-    let at = words::find_byte(s, 0, s.len(), byte);
-    &s[at..]
+/// A line: its label, what it calls, and its bytes in hexadecimal.
+#[derive(Clone, Copy)]
+pub struct Case<'a> {
+    pub label: &'a [u8],
+    pub called: Called,
+    pub digits: &'a [u8],
 }
 
-// One digit more.
-fn grown(value: u64, byte: u8) -> u64 {
-    let digit = match byte {
-        b'0'..=b'9' => (byte - b'0') as u64,
-        _ => {
-            return value;
-        }
-    };
-    if value <= (u64::MAX - digit) / 10 {
-        return value * 10 + digit;
+/// What stands before a byte, and what stands from it on.
+pub fn cut(s: &[u8], byte: u8) -> (&[u8], &[u8])
+    ensures front { result.0.now ≡ before_first (λ b. b == byte) s.now }
+    ensures rest { result.1.now ≡ drop (position_or_len (λ b. b == byte) s.now) s.now }
+{
+    let at = find(s, byte).unwrap_or(s.len());
+    s.split_at(at)
+}
+
+// The numbers of a line behind what is called.
+fn numbers(words: &[u8]) -> [u64; 8] {
+    let mut numbers = [0; 8];
+    for (place, word) in numbers.iter_mut().zip(words.split(|b| *b == b' ').skip(2)) {
+        *place = read_number(word).unwrap_or(0);
     }
-    value
+    numbers
 }
 
-// The numbers behind the first nine spaces, each at its place from 1 on; a word there is 0.
-fn numbers(words: &[u8]) -> [u64; 10] {
-    let mut out = [0u64; 10];
-    let mut at = 0;
-    let mut i = 0;
-    while i < words.len() {
-        if words[i] == b' ' {
-            at += 1;
-        }
-        if 10 <= at {
-            return out;
-        }
-        out[at] = grown(out[at], words[i]);
-        i += 1;
+fn drill_call(call: DrillCall) -> Called {
+    Called::Drill {
+        call,
+        ranks: 0,
+        slip: 0,
     }
-    out
 }
 
-// How many numbers or bytes of a buffer are handed over.
-fn least(count: u64, room: usize) -> usize
-    ensures { result ≤ room }
-{
-    if count < room as u64 {
-        return count as usize;
-    }
-    room
-}
-
-// The numbers of a line, of which the third counts what is handed over.
-#[derive(Drop)]
-pub struct Given {
-    pub first: u64,
-    pub second: u64,
-    pub third: usize,
-}
-
-pub fn figures(words: &[u8]) -> Given
-    ensures { result.third ≤ 130 }
-{
+// What a line calls, by its words behind the label.
+fn read_called(words: &[u8]) -> Option<Called> {
+    let name = words.split(|b| *b == b' ').nth(1)?;
     let n = numbers(words);
-    Given {
-        first: n[2],
-        second: n[3],
-        third: least(n[4], 130),
+    match name {
+        b"size" => Some(Called::Size {
+            prevailing: n[0],
+            available: n[1],
+            slip: n[2] as usize,
+        }),
+        b"open" => Some(Called::Open { own: n[0] }),
+        b"default" => Some(Called::Drill {
+            call: DrillCall::Default {
+                member: n[0],
+                pools: Pools {
+                    count: n[1] as usize,
+                    losses: [n[2], n[3], n[4], n[5]],
+                },
+            },
+            ranks: n[6] as usize,
+            slip: n[7] as usize,
+        }),
+        b"payment" => Some(drill_call(DrillCall::Payment {
+            member: n[0],
+            amount: n[1],
+        })),
+        b"replenishment" => Some(drill_call(DrillCall::Replenishment {
+            member: n[0],
+            amount: n[1],
+        })),
+        b"close" => Some(drill_call(DrillCall::Close)),
+        _ => None,
     }
 }
 
-// The numbers of a default's line: the last two count the ranks and the slip's numbers that are handed over.
-#[derive(Drop)]
-pub struct Declared {
-    pub member: u64,
-    pub pools: Pools,
-    pub ranks: usize,
-    pub slip: usize,
-}
-
-pub fn declaration(words: &[u8]) -> Declared
-    ensures { (result.ranks ≤ 320) × (result.slip ≤ 130) }
+/// The case of a line, if it is one.
+pub fn read_case(line: &[u8]) -> Option<Case<'_>>
+    ensures { IfSome result (λ case. case.label.now ≡ before_first (λ b. b == 58) line.now) }
 {
-    let n = numbers(words);
-    Declared {
-        member: n[2],
-        pools: Pools {
-            count: n[3] as usize,
-            loss1: n[4],
-            loss2: n[5],
-            loss3: n[6],
-            loss4: n[7],
-        },
-        ranks: least(n[8], 320),
-        slip: least(n[9], 130),
+    let (label, words) = cut(line, b':');
+    let (_, digits) = cut(words, b'/');
+    Some(Case {
+        label,
+        called: read_called(words)?,
+        digits,
+    })
+}
+
+// The value of a hexadecimal digit.
+fn digit(byte: &u8) -> Option<u8> {
+    match *byte {
+        b'0'..=b'9' => Some(*byte - b'0'),
+        b'a'..=b'f' => Some(*byte - b'a' + 10),
+        _ => None,
     }
 }
 
-// The value of a hexadecimal digit, 16 for any other byte.
-fn digit(byte: u8) -> u8
-    ensures { result ≤ 16 }
+/// The bytes that pairs of hexadecimal digits say, in the front of the room.
+pub fn bytes<'a>(room: &'a mut [u8], digits: &[u8]) -> &'a [u8]
+    ensures { length result.now ≤ length room.old }
 {
-    match byte {
-        b'0'..=b'9' => byte - b'0',
-        b'a'..=b'f' => byte - b'a' + 10,
-        _ => 16,
+    let mut digits = digits.iter().filter_map(digit);
+    let mut count = 0;
+    for place in &mut *room {
+        let (Some(high), Some(low)) = (digits.next(), digits.next()) else {
+            break;
+        };
+        *place = high << 4 | low;
+        count += 1;
     }
-}
-
-// A sheet, or the ranks of up to five pools, in a buffer.
-#[derive(Drop)]
-pub struct Buffer {
-    pub list: [u8; 320],
-    pub count: usize,
-}
-
-// How many digits the buffer has taken with this one; a semicolon goes on to the next 64 bytes.
-fn next(taken: usize, byte: u8) -> usize
-    requires { taken ≤ 639 }
-    ensures { result ≤ 640 }
-{
-    if byte == b';' {
-        return taken / 128 * 128 + 128;
-    }
-    if digit(byte) < 16 {
-        return taken + 1;
-    }
-    taken
-}
-
-// The bytes that pairs of hexadecimal digits say; `blank` behind them and where a semicolon leaves them out.
-pub fn bytes(digits: &[u8], blank: u8) -> Buffer
-    ensures { (result.count ≤ 320) × (length result.list ≡ 320) }
-{
-    let mut list = [blank; 320];
-    let mut taken = 0;
-    let mut i = 0;
-    while i < digits.len() {
-        if 640 <= taken {
-            return Buffer { list, count: 320 };
-        }
-        let d = digit(digits[i]);
-        if d < 16 {
-            let at = taken / 2;
-            list[at] = list[at] % 16 * 16 + d;
-        }
-        taken = next(taken, digits[i]);
-        i += 1;
-    }
-    Buffer {
-        list,
-        count: taken / 2,
-    }
+    &room[..count]
 }

@@ -1,11 +1,6 @@
--- `cases::bytes` reads and writes within its lists, ends, and takes at most 640 digits.
-use Prim.Native.Nat.{◌≤◌, ◌-◌}
-use mathlib.Core.Path.{◌≡◌}
-use lib.ListN.{length}
+-- `cases::bytes` counts the places that it has filled.
+use Rattle.std.proofs.Common.{◌≤◌}
 use Rattle.cases.proofs.bytes.Given as goal
 
-abbrev pub invariant-loop-i : goal.invariant-loop-i
-invariant-loop-i l = (l.i ≤ length l.digits) × (l.taken ≤ 640) × (length l.list ≡ 320)
-
-abbrev pub decreases-loop-i : goal.decreases-loop-i
-decreases-loop-i l = length l.digits - l.i
+abbrev pub invariant-loop-place : goal.invariant-loop-place
+invariant-loop-place l = (goal.iterator-loop-place).can_next l.digits × (goal.iterator-loop-place).is_finite l.digits × (l.count ≤ l.place-index)

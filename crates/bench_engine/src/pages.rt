@@ -1,12 +1,11 @@
 // Repeated pages for the wall.
 use bench_defaults::fold::fold;
-use numbers::wide;
 use waterfall::Allocation;
 
 // The amounts rise a little with the turn, so that no turn is like the one before.
 fn once(turn: u64, page: &mut [u8; 328]) {
     let more = turn % 8;
-    page::print(
+    let _ = page::print(
         Allocation {
             fallen: 0,
             margin: 50_629 + more,
@@ -23,17 +22,15 @@ fn once(turn: u64, page: &mut [u8; 328]) {
 
 // One byte stands for the page, another one each turn, so that all have to be there.
 fn fold_page(sum: u64, page: &[u8; 328], turn: u64) -> u64 {
-    fold(sum, wide(page[(turn % 328) as usize]))
+    fold(sum, u64::from(page[(turn % 328) as usize]))
 }
 
 pub fn run(turns: u64) -> u64 {
-    let mut page = [0u8; 328];
-    let mut sum: u64 = 0;
-    let mut turn: u64 = 0;
-    while turn < turns {
+    let mut page = [0; 328];
+    let mut sum = 0;
+    for turn in 0..turns {
         once(turn, &mut page);
         sum = fold_page(sum, &page, turn);
-        turn += 1;
     }
     sum
 }

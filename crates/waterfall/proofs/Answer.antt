@@ -1,10 +1,10 @@
 -- What the proofs of the calls share: a call is judged and answered.
 use Prim.Native.Nat.{ℕ, ◌≤◌, ◌<◌}
-use mathlib.Core.Path.{◌≡◌, refl, ap, sym, subst, ◌∙◌}
+use mathlib.Core.Path.{◌≡◌, refl}
 use mathlib.Core.Bool.{Bool, false, true≢false, ◌||◌}
 use borrow.Author.Tests.{ltb-false}
 use lib.Dec.{eqb, ltb}
-use Rattle.std.specs.Prelude.{Option, Result, Some, None, Ok, Err, is_some}
+use Rattle.std.specs.Prelude.{Option, Some, None, Ok, Err, is_some}
 use Rattle.lists.specs.Checks.{check}
 use Rattle.lists.specs.Limits.{member_limit}
 use Rattle.lists.proofs.Checks.{check_by, check_past, neither}
@@ -14,9 +14,7 @@ use Rattle.admission.specs.Admission.{standing}
 use Rattle.admission.proofs.Passed.{passes, place}
 use Rattle.waterfall.specs.Register.{Register, GivenBack}
 use Rattle.waterfall.specs.Reply.{Layer, layer1, layer2, layer3, layer4, layer5, layer6, allocated, Says, nothing, judged}
-use Rattle.waterfall.specs.Parts.{handed_back}
 use Rattle.waterfall.specs.declared.Allocation.{Allocation}
-use Rattle.waterfall.specs.declared.Outcome.{Outcome}
 
 -- a test that is answered by itself, and what is answered by it
 pub is_refused : {e : Refusal} (o : Option Refusal) → answered o (tt {0}) ≡ Err e → o ≡ Some e
@@ -30,12 +28,6 @@ is_passed None q = refl
 pub is_none : (o : Option Refusal) → is_some o ≡ false → o ≡ None
 is_none (Some f) q = absurd (true≢false q)
 is_none None q = refl
-
-pub refused : {A : Type 0} {e : Refusal} (x : A) {o : Option Refusal} → o ≡ Some e → Err e ≡ answered o x
-refused x q = sym (ap (λ o. answered o x) q)
-
-pub passed : {A : Type 0} (x : A) {o : Option Refusal} → o ≡ None → Ok x ≡ answered o x
-passed x q = sym (ap (λ o. answered o x) q)
 
 -- what an answer says, where its refusal is none of a record
 none-allocated : (l : Layer) → 0 ≡ allocated l nothing
@@ -58,7 +50,7 @@ pub placeless_standing : (r : Register) (member : ℕ) (rest : Option Refusal) �
 placeless_standing r member rest p = placeless_check _ _ _ refl (placeless_check _ _ _ refl p)
 
 module _ (r next : Register) where
-  says : (refusal : Option Refusal) → Placeless refusal → Says (judged refusal r None next).reply refusal nothing
+  pub says : (refusal : Option Refusal) → Placeless refusal → Says (judged refusal r None next).reply refusal nothing
   unfolding judged check
   says (Some refusal) p = record { number_is = refl; position_is = p; fallen_is = refl; layers_are = λ l. refl; short_is = refl }
   says None p = record { number_is = refl; position_is = refl; fallen_is = refl; layers_are = none-allocated; short_is = refl }
@@ -68,17 +60,14 @@ module _ (r next : Register) where
   says-allocated a (Some refusal) p = record { number_is = refl; position_is = p; fallen_is = refl; layers_are = λ l. refl; short_is = refl }
   says-allocated a None p = record { number_is = refl; position_is = refl; fallen_is = refl; layers_are = λ l. refl; short_is = refl }
 
-  -- a call that allocates nothing
-  handed : (refusal : Option Refusal) → handed_back r (answered refusal next) ≡ judged refusal r None next
+  -- a call that allocates nothing: its reply, and the register after it
+  pub refused_call : {refusal : Refusal} {found : Option Refusal} → found ≡ Some refusal → (Err refusal ≡ (judged found r None next).reply) × (r ≡ (judged found r None next).register)
   unfolding judged
-  handed (Some refusal) = refl
-  handed None = refl
+  refused_call e = (rw e, rw e)
 
-  pub judged_call : {outcome : Outcome} {found : Result Register Refusal} (refusal : Option Refusal) → Placeless refusal
-      → outcome ≡ handed_back r found → found ≡ answered refusal next → (outcome ≡ judged refusal r None next) × Says outcome.reply refusal nothing
-  judged_call refusal p back is =
-      let value = back ∙ ap (handed_back r) is ∙ handed refusal in
-      (value, subst (λ (o : Outcome). Says o.reply refusal nothing) (sym value) (says refusal p))
+  pub accepted_call : {found : Option Refusal} → found ≡ None → (Ok None ≡ (judged found r None next).reply) × (next ≡ (judged found r None next).register)
+  unfolding judged
+  accepted_call e = (rw e, rw e)
 
 -- who passes 11, 12 and the refusal of an unfit amount has a place, and a fit amount
 pub record Fit (member : ℕ) (unfit : Bool) : Type 0 where

@@ -1,12 +1,12 @@
 -- A default as the code does it: its layers one after the other, its refusals, and what is settled.
-use Prim.Native.Nat.{ℕ, ◌-◌, ◌≤◌, ◌<◌}
+use Prim.Native.Nat.{ℕ, ◌+◌, ◌-◌, ◌≤◌, ◌<◌}
 use mathlib.Core.Path.{◌≡◌, refl, ap, sym, ◌∙◌}
 use mathlib.Core.Bool.{Bool, true, false}
-use mathlib.Core.List.{List}
+use mathlib.Core.List.{List, ◌++◌}
 use native.Mathlib.Omega.{arith}
-use lib.ListN.{length, get_or}
+use lib.ListN.{length, get_or, drop}
 use lib.Seq.{get_or-set_same}
-use Rattle.std.specs.Prelude.{Option, Some, None}
+use Rattle.std.specs.Prelude.{Option, Some, None, Ok, Err}
 use Rattle.std.specs.Option.{option_or}
 use Rattle.lists.specs.Checks.{check}
 use Rattle.lists.specs.Limits.{member_limit, amount_limit}
@@ -28,10 +28,11 @@ use Rattle.pools.specs.Pools.{sums_of, charges_by_pools}
 use Rattle.layers.specs.Parts.{Allocatable, GoesDown}
 use Rattle.layers.specs.declared.Placed.{Placed}
 use Rattle.waterfall.specs.Register.{Register, GivenBack}
-use Rattle.waterfall.specs.Default.{standing_of, rooms_of, fallen_call, to_place, on_margin, after1, on_contribution, after2, on_tranche1, after3, after4, on_tranche2, after5, on_calls, calls, shortfall, allocation_of, settled_of, overdrawn}
-use Rattle.waterfall.specs.Pools.{loss_together, given_before, pool_sums, pooled_charges, pooled_allocation, pooled_refusal, pooled_of}
-use Rattle.waterfall.specs.Parts.{settled_as, allocation_in, Settles, PlacedAs}
-use Rattle.waterfall.specs.Reply.{Says}
+use Rattle.waterfall.specs.Default.{standing_of, rooms_of, fallen_call, to_place, on_margin, after1, on_contribution, after2, on_tranche1, after3, after4, on_tranche2, after5, on_calls, calls, shortfall, allocation_of, settled_of, overdrawn, slip_of}
+use Rattle.waterfall.specs.Pools.{loss_together, given_before, pool_sums, pooled_charges, pooled_allocation, pooled_refusal, pooled_of, pooled_slip}
+use Rattle.waterfall.specs.declared.Allocation.{Allocation}
+use Rattle.waterfall.specs.Parts.{settled_as, allocation_in, Settles}
+use Rattle.waterfall.specs.Reply.{Reply, Says, judged}
 use Rattle.waterfall.proofs.Answer.{Placeless, placeless_check, placeless_standing, says-allocated}
 use Rattle.waterfall.proofs.Default.{Layer4, unmarked, rooms-within, charges-within, calls-within, margin-gives, contribution-gives, tranche1-gives, tranche2-gives}
 use Rattle.waterfall.proofs.Given.{given-settled}
@@ -77,6 +78,35 @@ module _ (r : Register) (member : ℕ) (pools : Pools) (ranks slip : List ℕ) w
   pub says_pooled : Says (pooled_of r member pools ranks slip).reply (pooled_refusal r member pools ranks slip) (pooled_allocation r member pools ranks)
   unfolding pooled_of
   says_pooled = says-allocated _ _ _ _ placeless
+
+  -- its reply, the register and the slip that it leaves
+  pub record Declared (reply : Reply) (next : Register) (left : List ℕ) : Type 0 where
+    pub answer : reply ≡ (pooled_of r member pools ranks slip).reply
+    pub register_after : next ≡ (pooled_of r member pools ranks slip).register
+    pub slip_after : left ≡ pooled_slip r member pools ranks slip
+
+  pub refused : {refusal : Refusal} → pooled_refusal r member pools ranks slip ≡ Some refusal → Declared (Err refusal) r slip
+  unfolding pooled_of pooled_slip judged check
+  refused e = record { answer = rw e; register_after = rw e; slip_after = rw e }
+
+  -- a default that nothing refuses, placed as the rules say
+  pub record PlacedAs (x : Placed) : Type 0 where
+    pub unrefused : pooled_refusal r member pools ranks slip ≡ None
+    pub settles : Settles r member x
+    pub allocation_is : allocation_in x ≡ pooled_allocation r member pools ranks
+    pub settled_is : settled_as r member x ≡ settled_of r member (loss_together pools) (pooled_charges r member pools ranks)
+    pub slip_is : x.charges ++ x.called ++ drop (member_limit + member_limit) slip ≡ slip_of r member (loss_together pools) (pooled_charges r member pools ranks) slip
+    pub slip_fits : member_limit + member_limit ≤ length slip
+
+  pub accepted : {x : Placed} → PlacedAs x → {a : Allocation} {next : Register} {left : List ℕ} → a ≡ allocation_in x → next ≡ settled_as r member x
+      → left ≡ x.charges ++ x.called ++ drop (member_limit + member_limit) slip → Declared (Ok (Some a)) next left
+  unfolding pooled_of pooled_slip judged check
+  accepted p a n l =
+      record {
+        answer = rw (p.unrefused, a, p.allocation_is);
+        register_after = rw p.unrefused (n ∙ p.settled_is);
+        slip_after = rw p.unrefused (l ∙ p.slip_is);
+      }
 
 -- the layers ----------------------------------------------------------------------------
 

@@ -2,24 +2,36 @@
 ghost use Rattle.std.specs.Prelude.{◌≡◌};
 ghost use Rattle.waterfall.specs.Reply.{Says};
 ghost use Rattle.waterfall.specs.Pools.{pooled_allocation, pooled_refusal, pooled_of, pooled_slip};
-ghost use Rattle.waterfall.specs.Parts.{PlacedOr, Settles, settled_as, allocation_in};
+ghost use Rattle.waterfall.specs.Parts.{Settles, settled_as, allocation_in};
 
-use crate::{Allocation, Outcome, Register};
+use crate::{Allocation, Outcome, Register, Reply};
 use admission::{Pools, default_admission};
 use figures::{add_to, defaulted, lower, take_from};
 use layers::{Figures, Placed, allocate, tell};
 use refusal::Refusal;
 
 impl Register {
-    // The six layers of a default that nothing refuses. They change nothing yet.
-    fn placed(
-        &self,
-        member: u64,
-        pools: Pools,
-        ranks: &[u8],
-        slip: &[u64],
-    ) -> Result<Placed, Refusal>
-        ensures { PlacedOr self.now member pools ranks.now slip.now result }
+    // "Each charge leaves its pocket", and the defaulter is in default for good.
+    fn settle(&mut self, member: u64, placed: &Placed)
+        requires { Settles self.old member placed.now }
+        ensures { self.new ≡ settled_as self.old member placed.now }
+    {
+        self.status = defaulted(self.status, member);
+        lower(&mut self.margin, member, placed.margin);
+        lower(&mut self.contribution, member, placed.contribution);
+        lower(&mut self.outstanding, member, placed.fallen);
+        self.tranche1 -= placed.tranche1;
+        self.tranche2 -= placed.tranche2;
+        take_from(&mut self.contribution, &placed.charges);
+        add_to(&mut self.outstanding, &placed.called, placed.calls);
+        add_to(&mut self.called, &placed.called, placed.calls);
+    }
+
+    // The six layers change nothing yet: 19 may still refuse the default.
+    fn place(&mut self, member: u64, pools: Pools, ranks: &[u8], slip: &mut [u64]) -> Reply
+        ensures answer { result ≡ (pooled_of self.old member pools ranks.now slip.old).reply }
+        ensures register_after { self.new ≡ (pooled_of self.old member pools ranks.now slip.old).register }
+        ensures slip_after { slip.new ≡ pooled_slip self.old member pools ranks.now slip.old }
     {
         default_admission(self.status, member, pools, ranks, slip.len())?;
         let figures = Figures {
@@ -36,43 +48,20 @@ impl Register {
         if placed.over {
             return Err(Refusal::Overdrawn);
         }
-        Ok(placed)
+        self.settle(member, &placed);
+        tell(placed, slip);
+        Ok(Some(Allocation::from(&placed)))
     }
 
-    // "Each charge leaves its pocket", and the defaulter is in default for good.
-    fn settled(mut self, member: u64, placed: &Placed) -> Register
-        requires { Settles self member placed.now }
-        ensures { result ≡ settled_as self member placed.now }
-    {
-        self.status = defaulted(self.status, member);
-        lower(&mut self.margin, member, placed.margin);
-        lower(&mut self.contribution, member, placed.contribution);
-        lower(&mut self.outstanding, member, placed.fallen);
-        self.tranche1 -= placed.tranche1;
-        self.tranche2 -= placed.tranche2;
-        take_from(&mut self.contribution, &placed.charges);
-        add_to(&mut self.outstanding, &placed.called, placed.calls);
-        add_to(&mut self.called, &placed.called, placed.calls);
-        self
-    }
-
-    pub fn declare(self, member: u64, pools: Pools, ranks: &[u8], slip: &mut [u64]) -> Outcome
+    pub fn declare(mut self, member: u64, pools: Pools, ranks: &[u8], slip: &mut [u64]) -> Outcome
         ensures value { result ≡ pooled_of self member pools ranks.now slip.old }
         ensures slip_after { slip.new ≡ pooled_slip self member pools ranks.now slip.old }
         ensures says { Says result.reply (pooled_refusal self member pools ranks.now slip.old) (pooled_allocation self member pools ranks.now) }
     {
-        match self.placed(member, pools, ranks, slip) {
-            Ok(placed) => {
-                tell(placed, slip);
-                Outcome {
-                    reply: Ok(Some(Allocation::from(&placed))),
-                    register: self.settled(member, &placed),
-                }
-            }
-            Err(refusal) => Outcome {
-                reply: Err(refusal),
-                register: self,
-            },
+        let reply = self.place(member, pools, ranks, slip);
+        Outcome {
+            reply,
+            register: self,
         }
     }
 }

@@ -8,9 +8,6 @@ pub mod payment;
 pub mod replenishment;
 pub mod view;
 
-ghost use Rattle.std.specs.Prelude.{◌≡◌};
-ghost use Rattle.waterfall.specs.Parts.{handed_back};
-
 use figures::Status;
 use refusal::Refusal;
 use std::marker::Model;
@@ -73,22 +70,4 @@ pub type Reply = Result<Option<Allocation>, Refusal>;
 pub struct Outcome {
     pub reply: Reply,
     pub register: Register,
-}
-
-impl Register {
-    // A call that allocates nothing: where it is accepted, it hands back the next register.
-    fn or_next(self, next: Result<Register, Refusal>) -> Outcome
-        ensures { result ≡ handed_back self next }
-    {
-        match next {
-            Ok(register) => Outcome {
-                reply: Ok(None),
-                register,
-            },
-            Err(refusal) => Outcome {
-                reply: Err(refusal),
-                register: self,
-            },
-        }
-    }
 }

@@ -1,29 +1,33 @@
 // "A payment lowers the outstanding call; it does not reopen the cap."
 ghost use Rattle.std.specs.Prelude.{◌≡◌};
-ghost use Rattle.refusal.specs.Refusal.{answered};
-ghost use Rattle.waterfall.specs.Calls.{paid_of, payment_refusal, payment_of};
+ghost use Rattle.waterfall.specs.Calls.{payment_refusal, payment_of};
 ghost use Rattle.waterfall.specs.Reply.{Says, nothing};
 
-use crate::{Outcome, Register};
+use crate::{Outcome, Register, Reply};
 use admission::amount_admission;
 use figures::{figure_of, replace};
 use refusal::Refusal;
 
 impl Register {
-    // The register once it is paid. What was called since the last close stands.
-    fn paid(mut self, member: u64, amount: u64) -> Result<Register, Refusal>
-        ensures { result ≡ answered (payment_refusal self member amount) (paid_of self member amount) }
+    // What was called since the last close stands.
+    fn lower_outstanding(&mut self, member: u64, amount: u64) -> Reply
+        ensures answer { result ≡ (payment_of self.old member amount).reply }
+        ensures register_after { self.new ≡ (payment_of self.old member amount).register }
     {
         let due = figure_of(&self.outstanding, member);
         amount_admission(&self.status, member, amount, due, Refusal::UnfitPayment)?;
         replace(&mut self.outstanding, member, due - amount);
-        Ok(self)
+        Ok(None)
     }
 
-    pub fn pay(self, member: u64, amount: u64) -> Outcome
+    pub fn pay(mut self, member: u64, amount: u64) -> Outcome
         ensures value { result ≡ payment_of self member amount }
         ensures says { Says result.reply (payment_refusal self member amount) nothing }
     {
-        self.or_next(self.paid(member, amount))
+        let reply = self.lower_outstanding(member, amount);
+        Outcome {
+            reply,
+            register: self,
+        }
     }
 }

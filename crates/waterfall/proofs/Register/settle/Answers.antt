@@ -1,11 +1,11 @@
--- `waterfall::Register::settled` meets its contract.
+-- `waterfall::Register::settle` meets its contract.
 use Prim.Native.Nat.{ℕ, ◌-◌}
 use mathlib.Core.Path.{◌≡◌, sym, subst}
 use native.Mathlib.Omega.{arith}
 use Rattle.waterfall.specs.Register.{Register, GivenBack}
 use Rattle.waterfall.specs.Parts.{settled_as}
-use Rattle.waterfall.proofs.Register.settled.Goals.{After-add_to-2}
-use Rattle.waterfall.proofs.Register.settled.Goals as goal
+use Rattle.waterfall.proofs.Register.settle.Goals.{After-add_to-2}
+use Rattle.waterfall.proofs.Register.settle.Goals as goal
 
 -- a fallen call "is no longer outstanding"
 cleared : {fallen figure : ℕ} → fallen ≡ figure → figure - fallen ≡ 0
@@ -27,7 +27,7 @@ module _ (c : After-add_to-2) where
         tranche2 = c.self.inside.tranche2 - c.args.placed.now.tranche2;
       }
 
-  same : left ≡ settled_as c.args.self c.args.member c.args.placed.now
+  same : left ≡ settled_as c.args.self.now c.args.member c.args.placed.now
   same =
       let fallen_is = rw (← c.self.view_is) at c.requires.fallen_is in
       rw (

@@ -1,7 +1,7 @@
--- `waterfall::Register::paid` meets its contract.
+-- `waterfall::Register::lower_outstanding` meets its contract.
 use mathlib.Core.Path.{◌≡◌, sym, ◌∙◌}
 use native.Mathlib.Omega.{arith}
-use Rattle.std.specs.Prelude.{None}
+use Rattle.std.specs.Prelude.{Some, None}
 use Rattle.std.proofs.lemmas.Result.{err_from_is_err_and}
 use Rattle.lists.specs.Limits.{amount_limit}
 use Rattle.figures.specs.Figures.{figure}
@@ -9,17 +9,21 @@ use Rattle.figures.proofs.Figures.{figure_bound}
 use Rattle.admission.specs.Admission.{unfit}
 use Rattle.refusal.specs.declared.Refusal.{Refusal}
 use Rattle.waterfall.specs.Inside.{seen}
-use Rattle.waterfall.specs.Calls.{paid_of, payment_refusal}
-use Rattle.waterfall.proofs.Answer.{Fit, fit, is_refused, is_passed, refused, passed, within_bound}
+use Rattle.waterfall.specs.Calls.{paid_of, payment_refusal, payment_of}
+use Rattle.waterfall.proofs.Answer.{Fit, fit, is_refused, is_passed, refused_call, accepted_call, within_bound}
 use Rattle.waterfall.proofs.Given.{given-paid}
-use Rattle.waterfall.proofs.Register.paid.Goals.{In_ok-amount_admission}
-use Rattle.waterfall.proofs.Register.paid.Goals as goal
+use Rattle.waterfall.proofs.Register.lower_outstanding.Goals.{In_ok-amount_admission}
+use Rattle.waterfall.proofs.Register.lower_outstanding.Goals as goal
 
 pub returns-in_err-amount_admission : goal.returns-in_err-amount_admission
-unfolding payment_refusal
+unfolding payment_refusal payment_of
 returns-in_err-amount_admission c =
+    let a = c.args in
     let e = err_from_is_err_and c.from_residual.result c.from_residual.ensures.1 in
-    rw (e.1, e.2, ← c.self.view_is) (refused _ (is_refused _ (sym (rw c.figure_of-due.ensures at c.amount_admission.ensures) ∙ c.in_err-amount_admission.was)))
+    let found : payment_refusal a.self.now a.member a.amount ≡ Some e.0 =
+    rw (← c.self.view_is) (is_refused _ (sym (rw c.figure_of-due.ensures at c.amount_admission.ensures) ∙ rw e.2 c.in_err-amount_admission.was)) in
+    let call = refused_call a.self.now (paid_of a.self.now a.member a.amount) found in
+    rw e.1 (record { answer = call.0; register_after = call.1 })
 
 -- past the refusals
 module _ (c : In_ok-amount_admission) where
@@ -47,5 +51,8 @@ unfolding paid_of
 invariant_of-self c = rw (c.replace.ensures, c.figure_of-due.ensures) (given-paid _ c.self.invariant c.args.member c.args.amount)
 
 pub returns : goal.returns
-unfolding paid_of
-returns c = rw (c.replace.ensures, c.figure_of-due.ensures, ← c.self.view_is) (passed _ (unrefused (goal.at.returns c).In_ok-amount_admission))
+unfolding payment_of paid_of
+returns c =
+    let r = seen c.self.inside in
+    let call = accepted_call r (paid_of r c.args.member c.args.amount) (unrefused (goal.at.returns c).In_ok-amount_admission) in
+    rw (c.replace.ensures, c.figure_of-due.ensures, ← c.self.view_is) (record { answer = call.0; register_after = call.1 })

@@ -1,0 +1,59 @@
+-- `waterfall::Register::place` meets its contract.
+use mathlib.Core.Path.{◌≡◌, sym, ◌∙◌}
+use Rattle.std.specs.Prelude.{Some, None}
+use Rattle.std.proofs.lemmas.Result.{err_from_is_err_and}
+use Rattle.refusal.specs.declared.Refusal.{Refusal}
+use Rattle.waterfall.specs.Pools.{pooled_refusal}
+use Rattle.waterfall.specs.Inside.{seen}
+use Rattle.waterfall.proofs.Answer.{is_refused, is_passed}
+use Rattle.waterfall.proofs.Placing.{early, refused_early, refused_late, refused, PlacedAs, accepted, allocatable, over_is, placed_as}
+use Rattle.waterfall.proofs.Register.place.Goals.{In_ok-default_admission, Else-placed}
+use Rattle.waterfall.proofs.Register.place.Goals as goal
+
+pub returns-in_err-default_admission : goal.returns-in_err-default_admission
+returns-in_err-default_admission c =
+    let a = c.args in
+    let e = err_from_is_err_and c.from_residual.result c.from_residual.ensures.1 in
+    let found : pooled_refusal a.self.now a.member a.pools a.ranks.now a.slip.now ≡ Some e.0 =
+    rw (← c.self.view_is) (refused_early _ _ _ _ _ (is_refused _ (sym c.default_admission.ensures ∙ rw e.2 c.in_err-default_admission.was))) in
+    let r = refused a.self.now a.member a.pools a.ranks.now a.slip.now found in
+    rw e.1 (record { answer = r.answer; register_after = r.register_after; slip_after = r.slip_after })
+
+module _ (c : In_ok-default_admission) where
+  passed : early (seen c.self.inside) c.args.member c.args.pools c.args.ranks.now c.args.slip.now ≡ None
+  passed = is_passed _ (sym c.default_admission.ensures ∙ c.in_ok-default_admission.was)
+
+pub allocate-placed-requires : goal.allocate-placed-requires
+allocate-placed-requires c =
+    allocatable (seen c.self.inside) c.self.invariant c.args.member c.args.pools c.args.ranks.now c.args.slip.now (passed (goal.at.allocate-placed-requires c).In_ok-default_admission)
+
+pub returns-then-placed : goal.returns-then-placed
+returns-then-placed c =
+    let a = c.args in
+    let early-none = passed (goal.at.returns-then-placed c).In_ok-default_admission in
+    let over = over_is (seen c.self.inside) c.self.invariant a.member a.pools a.ranks.now a.slip.now early-none _ c.allocate-placed.ensures in
+    let found : pooled_refusal a.self.now a.member a.pools a.ranks.now a.slip.now ≡ Some Refusal.Overdrawn =
+    rw (← c.self.view_is) (refused_late (seen c.self.inside) a.member a.pools a.ranks.now a.slip.now early-none (sym over ∙ c.if-placed.true)) in
+    let r = refused a.self.now a.member a.pools a.ranks.now a.slip.now found in
+    record { answer = r.answer; register_after = r.register_after; slip_after = r.slip_after }
+
+-- a default that nothing refuses
+module _ (c : Else-placed) where
+  placed : PlacedAs c.args.self.now c.args.member c.args.pools c.args.ranks.now c.args.slip.now c.allocate-placed.result
+  placed =
+      let early-none : early (seen c.self.inside) c.args.member c.args.pools c.args.ranks.now c.args.slip.now ≡ None =
+      is_passed _ (sym c.default_admission.ensures ∙ c.in_ok-default_admission.was) in
+      rw (← c.self.view_is)
+      (placed_as (seen c.self.inside) c.self.invariant c.args.member c.args.pools c.args.ranks.now c.args.slip.now early-none _ c.allocate-placed.ensures c.if-placed.false)
+
+pub settle-requires : goal.settle-requires
+settle-requires c = (placed (goal.at.settle-requires c).Else-placed).settles
+
+pub tell-requires : goal.tell-requires
+tell-requires c = (placed (goal.at.tell-requires c).Else-placed).slip_fits
+
+pub returns : goal.returns
+returns c =
+    let a = c.args in
+    let d = accepted a.self.now a.member a.pools a.ranks.now a.slip.now (placed (goal.at.returns c).Else-placed) c.from.ensures c.settle.ensures c.tell.ensures in
+    record { answer = d.answer; register_after = d.register_after; slip_after = d.slip_after }

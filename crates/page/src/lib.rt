@@ -4,7 +4,7 @@
 ghost use Rattle.std.specs.Prelude.{◌≡◌, ◌≤◌, ◌++◌, length, drop, flat_map};
 ghost use Rattle.lists.specs.Limits.{printed_limit};
 ghost use Rattle.refusal.specs.Refusal.{answered};
-ghost use Rattle.page.specs.Page.{amounts_of, any_above, line, row_of, page_length, page_of, page_refusal, page_left};
+ghost use Rattle.page.specs.Page.{amounts_of, any_above, heading, line, row_of, page_length, page_of, page_refusal, page_left};
 ghost use Rattle.page.specs.Parts.{Within};
 
 use indian_digits::put_amount;
@@ -57,13 +57,23 @@ fn row(name: &[u8], amount: u64) -> [u8; LINE_LENGTH]
     row
 }
 
+// The first line: a fixed text of 40 bytes.
+#[tactic(auto, unfolding(crate::specs::Page::heading, crate::specs::Page::line))]
+fn heading() -> [u8; LINE_LENGTH]
+    ensures { result ≡ line heading }
+{
+    let mut row = [b'\n'; LINE_LENGTH];
+    row[..40].copy_from_slice(b"LAYER                        Rs THOUSAND");
+    row
+}
+
 // The page's lines.
 fn lines(a: Allocation) -> [[u8; LINE_LENGTH]; 8]
     requires { Within a }
     ensures { flat_map (λ line. line) result ≡ page_of a }
 {
     [
-        *b"LAYER                        Rs THOUSAND\n",
+        heading(),
         row(b"MARGIN", a.margin),
         row(b"OWN FUND", a.contribution),
         row(b"TRANCHE 1", a.tranche1),

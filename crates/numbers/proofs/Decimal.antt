@@ -5,10 +5,12 @@ use mathlib.Core.Bool.{Bool, true, false, ◌&&◌}
 use mathlib.Core.List.{List, [], ◌∷◌, ◌++◌}
 use native.Mathlib.Omega.{arith}
 use native.Mathlib.Nat.{div-lt_iff_lt-mul, pow-suc}
-use borrow.Author.Tests.{lt-ltb, ltb-true, ltb-false, le-leb}
+use borrow.Author.Tests.{lt-ltb, ltb-true, le-leb}
 use lib.Dec.{ltb, lit<}
 use lib.ListN.{length, length-append}
 use Rattle.std.specs.Prelude.{Some}
+use Rattle.std.specs.Fmt.{decimal}
+use Rattle.std.proofs.lemmas.Fmt.{decimal_from_appends, decimal_digit, decimal_step, length-decimal-le}
 use Rattle.lists.specs.Checks.{check}
 use Rattle.lists.proofs.Checks.{check-lt, check_nlt, check_by}
 use Rattle.numbers.specs.Numbers.{digits_of, decimal_of, value_from, all_digits, is_digit, is_empty, read_of}
@@ -17,23 +19,8 @@ pub some-append : (s : List ℕ) (b : ℕ) → is_empty (s ++ (b ∷ [])) ≡ fa
 some-append [] b = refl
 some-append (a ∷ s) b = refl
 
--- one digit, and more
-small : (f n : ℕ) → n < 10 → digits_of (suc f) n ≡ (48 + n) ∷ []
-small f n h = sym (check-lt _ _ n 10 h refl)
-
-large : (f n : ℕ) → 10 ≤ n → digits_of (suc f) n ≡ digits_of f (n / 10) ++ ((48 + n % 10) ∷ [])
-large f n h = sym (check_nlt _ _ n 10 h refl)
-
 tenth : (f n : ℕ) → n < 10 ^ suc f → n / 10 < 10 ^ f
 tenth f n h = (div-lt_iff_lt-mul {k = 10} {x = n} {y = 10 ^ f} (lit< tt)).1 (rw pow-suc at h)
-
--- a number below 10 ^ f has at most f digits, so that more room for them changes nothing
-room : (f n : ℕ) → n < 10 ^ suc f → digits_of (suc f) n ≡ digits_of (suc (suc f)) n
-room zero n h = small 0 n h ∙ sym (small 1 n h)
-room (suc f) n h =
-    check_by (λ (s : List ℕ). s ≡ digits_of (suc (suc (suc f))) n) (ltb n 10) _ _
-    (λ e. sym (small (suc (suc f)) n (ltb-true n 10 e)))
-    (λ e. ap (λ (s : List ℕ). s ++ ((48 + n % 10) ∷ [])) (room f (n / 10) (tenth (suc f) n h)) ∙ sym (large (suc (suc f)) n (ltb-false n 10 e)))
 
 digits-length : (f n : ℕ) → length (digits_of f n) ≤ f
 digits-length zero n = omega arith
@@ -41,15 +28,6 @@ digits-length (suc f) n =
     check_by (λ (s : List ℕ). length s ≤ suc f) (ltb n 10) _ _
     (λ e. omega arith)
     (λ e. simp length-append (omega (arith, digits-length f (n / 10))))
-
--- a number below 10 ^ (k + 1) has at most k + 1 digits
-few-digits : (k f n : ℕ) → n < 10 ^ suc k → length (digits_of f n) ≤ suc k
-few-digits k zero n h = omega arith
-few-digits zero (suc f) n h = rw (small f n h) (omega arith)
-few-digits (suc k) (suc f) n h =
-    check_by (λ (s : List ℕ). length s ≤ suc (suc k)) (ltb n 10) _ _
-    (λ e. omega arith)
-    (λ e. simp length-append (omega (arith, few-digits k f (n / 10) (tenth (suc k) n h))))
 
 -- the value of digits behind others
 value-append : (v : ℕ) (s t : List ℕ) → value_from v (s ++ t) ≡ value_from (value_from v s) t
@@ -86,22 +64,28 @@ digits-some f n =
     (λ e. refl)
     (λ e. some-append (digits_of f (n / 10)) _)
 
--- the digits of a number of 64 bits
-pub decimal_small : (n : ℕ) → n < 10 → decimal_of n ≡ (48 + n) ∷ []
+-- the digits of a number of 64 bits are those that std prints
+pub decimal_printed : (n : ℕ) → n < 2 ^ 64 → decimal n ≡ decimal_of n
 unfolding decimal_of
-decimal_small n h = small 19 n h
+decimal_printed n h =
+    sym (decimal_from_appends digits_of (record {
+      one = λ k m small. sym (check-lt _ _ m 10 small refl);
+      more = λ k m large. sym (check_nlt _ _ m 10 large refl);
+    }) 20 n h (length-decimal-le 20 n (omega arith) (omega arith) h))
+
+pub decimal_small : (n : ℕ) → n < 10 → decimal_of n ≡ (48 + n) ∷ []
+decimal_small n h = sym (decimal_printed n (omega arith)) ∙ decimal_digit n h
 
 pub decimal_large : (n : ℕ) → 10 ≤ n → n < 2 ^ 64 → decimal_of n ≡ decimal_of (n / 10) ++ ((48 + n % 10) ∷ [])
-unfolding decimal_of
-decimal_large n h k = large 19 n h ∙ ap (λ (s : List ℕ). s ++ ((48 + n % 10) ∷ [])) (room 18 (n / 10) (omega arith))
+decimal_large n h k =
+    sym (decimal_printed n k) ∙ decimal_step n h k ∙ ap (λ (s : List ℕ). s ++ ((48 + n % 10) ∷ [])) (decimal_printed (n / 10) (omega arith))
 
 pub decimal-length : (n : ℕ) → length (decimal_of n) ≤ 20
 unfolding decimal_of
 decimal-length n = digits-length 20 n
 
-pub decimal-few : (k n : ℕ) → n < 10 ^ suc k → length (decimal_of n) ≤ suc k
-unfolding decimal_of
-decimal-few k n h = few-digits k 20 n h
+pub decimal-few : (k n : ℕ) → n < 10 ^ suc k → n < 2 ^ 64 → length (decimal_of n) ≤ suc k
+decimal-few k n h f = rw (← decimal_printed n f) (length-decimal-le (suc k) n (omega arith) h f)
 
 pub decimal_all : (n : ℕ) → all_digits (decimal_of n) ≡ true
 unfolding decimal_of

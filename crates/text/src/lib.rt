@@ -84,7 +84,7 @@ impl<const N: usize> Text<N> {
     }
 
     /// Puts the digits of a number.
-    #[tactic(auto, using(crate::proofs::Digits::decimal_printed))]
+    #[tactic(auto, using(numbers::proofs::Decimal::decimal_printed))]
     pub fn put_number(&mut self, n: u64)
         requires { length self.old + 20 ≤ N }
         ensures bytes { self.new ≡ self.old ++ decimal_of n }

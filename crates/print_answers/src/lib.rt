@@ -60,6 +60,7 @@ fn put_charges<const N: usize>(out: &mut Text<N>, slip: &[u64])
     ensures bytes { out.new ≡ out.old ++ charges_text slip.now 64 }
     ensures len { length out.new ≤ length out.old + 64 * 87 }
 {
+    // By place, since a member's number, charge and call go by it.
     for i in 0..MEMBER_LIMIT {
         put_charge(out, i as u64 + 1, slip[i], slip[i + MEMBER_LIMIT]);
     }

@@ -61,7 +61,9 @@ impl Drill {
     fn call(&mut self, call: DrillCall)
         requires { length self.old.answers + 16384 ≤ 65536 }
         ensures register_after { self.new.register ≡ (applied_of self.old.register call (handed_of call self.old.ranks) self.old.slip).register }
-        ensures answered { self.new.answers ≡ self.old.answers ++ reply_text (applied_of self.old.register call (handed_of call self.old.ranks) self.old.slip).reply (slip_left self.old.register call (handed_of call self.old.ranks) self.old.slip) }
+        ensures answered { let ranks = handed_of call self.old.ranks in
+            self.new.answers ≡ self.old.answers ++ reply_text (applied_of self.old.register call ranks self.old.slip).reply
+            (slip_left self.old.register call ranks self.old.slip) }
     {
         self.register.given_back();
         let done = drill::apply(

@@ -1,5 +1,5 @@
 -- What is read of an input.
-use Rattle.std.specs.Prelude.{ℕ, Bool, true, false, List}
+use Rattle.std.specs.Prelude.{ℕ, Bool, true, false, List, take}
 use Rattle.words.specs.Bytes.{part}
 use Rattle.input.specs.declared.State.{State}
 use Rattle.input.specs.declared.Lines.{Lines}
@@ -7,6 +7,10 @@ use Rattle.input.specs.declared.Lines.{Lines}
 -- the bytes that are read and not yet taken
 abbrev pub rest_of : Lines → List ℕ
 rest_of lines = part lines.bytes lines.from lines.have
+
+-- what was read of a line stays; of a line that is too long already, one byte more than it may have stands for the whole
+abbrev pub kept_of : Lines → List ℕ
+kept_of lines = take 4097 (rest_of lines)
 
 abbrev pub has_ended : State → Bool
 has_ended State.Open = false

@@ -1,12 +1,14 @@
 // The lines of standard input, taken one by one.
 #![tactic(auto)]
 
-ghost use Rattle.std.specs.Prelude.{◌≡◌, ◌==◌, ◌<◌, ◌≤◌, [], false, min, length, take};
+ghost use Rattle.std.specs.Prelude.{◌≡◌, ◌==◌, ◌+◌, ◌<◌, ◌≤◌, [], false, min, length, take, drop};
+ghost use Rattle.std.specs.Result.{IfOk};
+ghost use Rattle.std.specs.Io.{StartsWith};
 ghost use Rattle.std.specs.List.{position};
 ghost use Rattle.input.specs.Lines.{length_of, IsNext};
 ghost use Rattle.std.specs.Option.{IfSome};
 
-use std::io::{Eprint, Input, Read};
+use std::io::{self, Eprint, Input, Read};
 use words::{Unreadable, find};
 
 /// A line may be so many bytes long. A longer one is unreadable as a whole.
@@ -47,6 +49,23 @@ fn line_length(bytes: &[u8], ended: bool) -> Option<usize>
     }
 }
 
+// Moves the `count` bytes that begin at `from` to the front.
+fn close_up(bytes: &mut [u8], from: usize, count: usize)
+    requires { from + count ≤ length bytes.old }
+    ensures { take count bytes.new ≡ take count (drop from bytes.old) }
+{
+    bytes.copy_within(from..from + count, 0);
+}
+
+// Reads behind the bytes that are kept.
+fn read_behind(input: &mut impl Read, bytes: &mut [u8], kept: usize) -> io::Result<usize>
+    requires { kept ≤ length bytes.old }
+    ensures front { take kept bytes.new ≡ take kept bytes.old }
+    ensures within { IfOk result (λ n. kept + n ≤ length bytes.old) }
+{
+    input.read(&mut bytes[kept..])
+}
+
 /// The lines of an input: the bytes from `from` to `have` are read and still to be taken, and begin a line.
 #[derive(Drop)]
 pub struct Lines {
@@ -59,7 +78,7 @@ pub struct Lines {
 }
 
 impl Lines {
-    ghost use Rattle.input.specs.Rest.{rest_of, has_ended};
+    ghost use Rattle.input.specs.Rest.{rest_of, kept_of, has_ended};
 
     /// An input of which nothing is read yet.
     pub fn new() -> Self
@@ -106,13 +125,14 @@ impl Lines {
     /// Reads on behind the bytes that are there. Of a line that is too long already, one byte more than it may have stands for the whole.
     pub fn read_on(&mut self, rt: &(impl Input + Eprint))
         ensures same_line { self.new.number ≡ self.old.number }
+        ensures kept { StartsWith (rest_of self.new) (kept_of self.old) }
         ensures more_or_ended { has_ended self.new.state ≡ false → min (length (rest_of self.old)) 4097 < length (rest_of self.new) }
     {
         let kept = (self.have - self.from).min(LINE_LIMIT + 1);
-        self.bytes.copy_within(self.from..self.from + kept, 0);
+        close_up(&mut self.bytes, self.from, kept);
         self.from = 0;
         self.have = kept;
-        match rt.reader().read(&mut self.bytes[kept..]) {
+        match read_behind(&mut rt.reader(), &mut self.bytes, kept) {
             Ok(0) => self.state = State::Ended,
             Ok(n) => self.have += n,
             Err(why) => {

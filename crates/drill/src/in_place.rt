@@ -1,5 +1,5 @@
-// "The console keeps one register through the whole drill." Thin wrappers take the register by &mut and store what the call by value
-// hands back.
+// "The console keeps one register through the whole drill": document 01, "Form by location", asks for these wrappers, one for each call, which take the
+// register by &mut and store what the call by value hands back.
 ghost use Rattle.std.specs.Prelude.{◌≡◌};
 ghost use Rattle.waterfall.specs.Pools.{pooled_allocation, pooled_refusal, pooled_of, pooled_slip};
 ghost use Rattle.waterfall.specs.Calls.{payment_refusal, payment_of, replenishment_refusal, replenishment_of, close_refusal, close_of};

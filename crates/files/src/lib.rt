@@ -23,7 +23,8 @@ fn fail(rt: &impl Eprint, what: &[u8], why: io::Error) {
     let _ = eprintln!(rt; ": {why}");
 }
 
-/// How many arguments the program was started with, its own name among them. No contract can say which they are.
+/// How many arguments the program was started with, its own name among them. No contract can say which they are. They are counted, since `args` of std
+/// asks for memory.
 pub fn arg_count(rt: &impl Env) -> usize
     ensures { result < 2 ^ 64 }
 {
@@ -44,7 +45,7 @@ pub fn number_at(rt: &impl Env, i: usize) -> Option<u64>
     numbers::read_number(&word[..n])
 }
 
-/// Reads to the end, or until the room is used up. Answers how many bytes there are.
+/// Reads to the end, or until the room is used up. Answers how many bytes there are. (`read_exact` fails at the end, and `read_to_end` asks for memory.)
 pub fn read_all(file: &mut impl Read, room: &mut [u8]) -> io::Result<usize>
     ensures { IfOk result (λ n. n ≤ length room.old) }
 {

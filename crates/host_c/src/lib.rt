@@ -1,4 +1,5 @@
-// What a console host in C calls: see crates/host/host.h. Each export calls the function of its name in `host`, and promises the same.
+// What a console host in C calls: see crates/host/host.h. Each export calls the function of its name in `host`, and promises the same: a crate is a
+// library or a static library, not both.
 #![tactic(auto)]
 
 ghost use Rattle.std.specs.Prelude.{◌≡◌, length};

@@ -1,4 +1,5 @@
-// A text of bounded length, to which bytes and numbers are put one behind the other.
+// A text of bounded length, to which bytes and numbers are put one behind the other. What is printed is put by functions, and not by Display: `write!`
+// answers a Result, and a text whose room is asked for cannot fail.
 #![tactic(auto)]
 
 ghost use Rattle.std.specs.Prelude.{◌≡◌, ℕ, ◌+◌, ◌<◌, ◌≤◌, ◌==◌, List, [], ◌∷◌, ◌++◌, length, take};

@@ -42,7 +42,7 @@ impl Model for Register {
     ghost inverse = { held };
 }
 
-/// What an opening hands back.
+/// What an opening hands back. Both fields, and no Result: "A refused opening hands back a register with no members" (document 01).
 #[derive(Clone, Copy, PartialEq, Eq)]
 pub struct Opened {
     pub refusal: Option<Refusal>,

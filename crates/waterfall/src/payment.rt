@@ -9,7 +9,7 @@ use figures::{figure_of, replace};
 use refusal::Refusal;
 
 impl Register {
-    // What was called since the last close stands.
+    // What was called since the last close stands. A replenishment is a function of its own: it differs in column, direction and test.
     fn lower_outstanding(&mut self, member: u64, amount: u64) -> Reply
         ensures answer { result ≡ (payment_of self.old member amount).reply }
         ensures register_after { self.new ≡ (payment_of self.old member amount).register }

@@ -1,5 +1,5 @@
 -- "Words are parted by one or more spaces." "`#` starts a comment that runs to the end of its line"
-use Rattle.std.specs.Prelude.{ℕ, ◌≡◌, refl, Bool, false, not, ◌||◌, List, [], ◌∷◌, ◌==◌, Option, Some, None, Result, Ok, Err}
+use Rattle.std.specs.Prelude.{ℕ, ◌≡◌, refl, Bool, false, not, ◌||◌, List, [], ◌∷◌, drop, ◌==◌, Option, Some, None, Result, Ok, Err}
 use Rattle.std.specs.List.{onto_first}
 use Rattle.lists.specs.Checks.{check}
 use Rattle.lists.specs.Texts.{ascii}
@@ -29,6 +29,14 @@ words_of (b ∷ s) =
 two-words : words_of (ascii "a  bc #d") ≡ ascii "a" ∷ ascii "bc" ∷ []
 unfolding words_of check
 two-words = refl
+
+first_word : words_of (ascii " ab#c") ≡ ascii "ab" ∷ []
+unfolding words_of check
+first_word = refl
+
+no-word : words_of (drop 3 (ascii " ab#c")) ≡ []
+unfolding words_of check
+no-word = refl
 
 no-words : words_of (ascii "  # n") ≡ []
 unfolding words_of check

@@ -61,9 +61,9 @@ pub fn trim(s: &[u8]) -> &[u8]
     trim_end(trim_start(s))
 }
 
-// What a cell says: `blank` where it is blank, its number where that is below the limit.
+/// What a cell says: `blank` where it is blank, its number where that is below the limit.
 #[tactic(auto, unfolding(crate::specs::Cells::field_of, lists::specs::Checks::check))]
-fn read_field(cell: &[u8], blank: u64, limit: u64) -> Option<u64>
+pub fn read_field(cell: &[u8], blank: u64, limit: u64) -> Option<u64>
     ensures value { result ≡ field_of blank limit cell.now }
     ensures within { IfSome result (λ v. (v ≡ blank) ⊎ (v < limit)) }
 {

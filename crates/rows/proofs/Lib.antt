@@ -1,1 +1,2 @@
--- No law is needed here.
+-- The laws that the proofs cite.
+pub mod Theorems

@@ -8,7 +8,7 @@ use crate::bytes::{beyond, le32};
 use lists::AMOUNT_LIMIT;
 use refusal::Fault;
 
-const MEMBERS: u32 = lists::MEMBER_LIMIT as u32;
+const MEMBERS: u64 = lists::MEMBER_LIMIT as u64;
 
 const MISSING: u32 = lists::MISSING_AMOUNT as u32;
 
@@ -17,7 +17,7 @@ const MISSING: u32 = lists::MISSING_AMOUNT as u32;
 fn outside(bytes: &[u8; 16]) -> bool
     ensures { result ≡ outside bytes.now }
 {
-    beyond(1, MEMBERS, le32(bytes, 0))
+    beyond(1, MEMBERS, u64::from(le32(bytes, 0)))
 }
 
 #[tactic(auto, unfolding(crate::specs::Members::missing))]

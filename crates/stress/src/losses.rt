@@ -11,11 +11,11 @@ use lists::{AMOUNT_LIMIT, WEAK_LIMIT};
 use refusal::Fault;
 use sheets::bytes::{beyond, le16, le32};
 
-const DAYS: u32 = lists::DAY_LIMIT as u32;
+const DAYS: u64 = lists::DAY_LIMIT as u64;
 
-const SCENARIOS: u32 = lists::SCENARIO_LIMIT as u32;
+const SCENARIOS: u64 = lists::SCENARIO_LIMIT as u64;
 
-const MEMBERS: u32 = lists::MEMBER_LIMIT as u32;
+const MEMBERS: u64 = lists::MEMBER_LIMIT as u64;
 
 const MISSING: u32 = lists::MISSING_AMOUNT as u32;
 
@@ -23,7 +23,7 @@ const MISSING: u32 = lists::MISSING_AMOUNT as u32;
 fn placed(bytes: &[u8; 16]) -> bool
     ensures { result ≡ not (block_beyond bytes.now) }
 {
-    !beyond(1, DAYS, u32::from(le16(bytes, 0))) & !beyond(1, SCENARIOS, u32::from(le16(bytes, 2)))
+    !beyond(1, DAYS, u64::from(le16(bytes, 0))) & !beyond(1, SCENARIOS, u64::from(le16(bytes, 2)))
 }
 
 #[tactic(auto, unfolding(crate::specs::Stress::stress_outside, sheets::specs::Bytes::le16, sheets::specs::Bytes::le32))]
@@ -31,8 +31,8 @@ fn outside(bytes: &[u8; 16]) -> bool
     ensures { result ≡ stress_outside bytes.now }
 {
     !placed(bytes)
-        | beyond(1, MEMBERS, u32::from(bytes[4]))
-        | beyond(0, 1, u32::from(bytes[5]))
+        | beyond(1, MEMBERS, u64::from(bytes[4]))
+        | beyond(0, 1, u64::from(bytes[5]))
         | (le16(bytes, 6) != 0)
         | (le32(bytes, 12) != 0)
 }
@@ -53,8 +53,8 @@ fn loss_to_end(bytes: &[u8; 16]) -> u64
 fn filled(bytes: &[u8; 16]) -> bool
     ensures { block_beyond bytes.now ≡ false → result ≡ not (stress_faulty bytes.now) }
 {
-    !beyond(1, MEMBERS, u32::from(bytes[4]))
-        & !beyond(0, 1, u32::from(bytes[5]))
+    !beyond(1, MEMBERS, u64::from(bytes[4]))
+        & !beyond(0, 1, u64::from(bytes[5]))
         & (le16(bytes, 6) == 0)
         & (loss_to_end(bytes) <= AMOUNT_LIMIT)
 }

@@ -156,24 +156,31 @@ impl SharesSheet {
         joined(&self.columns.present, &margin, &stress, &volume)
     }
 
+    // A quantum shared, refused or not.
+    pub fn shared(&self, quantum: u64) -> Shared
+        requires { quantum ≤ allocation_limit }
+        ensures { result ≡ shared_of quantum self.now }
+    {
+        let requirements = self.requirements(parts_of(quantum));
+        Shared {
+            highest: highest(&requirements),
+            requirements,
+        }
+    }
+
     // A quantum shared, or refusal 9, or 10.
     #[tactic(auto, unfolding(lists::specs::Checks::check, crate::specs::Requirements::sharing_refusal))]
     pub fn share(&self, quantum: u64) -> Result<Shared, Refusal>
         requires { quantum ≤ allocation_limit }
         ensures { result ≡ answered (sharing_refusal quantum self.now) (shared_of quantum self.now) }
     {
-        let parts = parts_of(quantum);
-        if self.any_unshared(parts) {
+        if self.any_unshared(parts_of(quantum)) {
             return Err(Refusal::Unshared);
         }
-        let requirements = self.requirements(parts);
-        let highest = highest(&requirements);
-        if AMOUNT_LIMIT < highest {
+        let shared = self.shared(quantum);
+        if AMOUNT_LIMIT < shared.highest {
             return Err(Refusal::ExcessiveRequirement);
         }
-        Ok(Shared {
-            highest,
-            requirements,
-        })
+        Ok(shared)
     }
 }

@@ -1,10 +1,10 @@
 -- Document 01, "Stress sheet and sizing": the whole of it. "Sizing takes a stress sheet, a shares sheet, prevailing minimum P (zero for none),
 -- own money available V and a requirement slip": the slip is a buffer of numbers that the caller lends.
-use Rattle.std.specs.Prelude.{ℕ, ◌+◌, ◌||◌, List, ◌++◌, ltb, length, drop, Option, Result, Some, is_some}
+use Rattle.std.specs.Prelude.{ℕ, ◌≡◌, ◌+◌, ◌||◌, List, ◌++◌, ltb, length, drop, Option, Result, Some, None, Ok, Err, is_some}
 use Rattle.std.specs.Option.{option_or}
 use Rattle.lists.specs.Checks.{check}
 use Rattle.lists.specs.Limits.{member_limit, sum_limit, stress_limit}
-use Rattle.refusal.specs.Refusal.{answered}
+use Rattle.refusal.specs.Refusal.{answered, number_of, position_of, refused_number}
 use Rattle.refusal.specs.declared.Refusal.{Refusal}
 use Rattle.sheets.specs.Columns.{columns_of}
 use Rattle.sheets.specs.Sheet.{missized, member_refusal}
@@ -77,3 +77,41 @@ unfoldable pub requirements_after : List ℕ → List ℕ → ℕ → ℕ → Li
 requirements_after stress shares prevailing available lent =
     check (is_some (sizing_refusal stress shares prevailing available (length lent))) lent
     (requirements_of (quantum_for (covered_of stress) (columns_of shares) prevailing available) (columns_of shares) ++ drop member_limit lent)
+
+-- What sizing answers, in document 01's numbers and values.
+-- "A refusal carries its number": 0 where sizing is accepted
+abbrev pub sized_number : Result Sized Refusal → ℕ
+sized_number (Err refusal) = number_of refusal
+sized_number (Ok figures) = 0
+
+-- "and, for 4 to 8, the record's place counted from 1 (0 for the others)"
+abbrev pub sized_position : Result Sized Refusal → ℕ
+sized_position (Err refusal) = position_of refusal
+sized_position (Ok figures) = 0
+
+abbrev pub refused_position : Option Refusal → ℕ
+refused_position (Some refusal) = position_of refusal
+refused_position None = 0
+
+-- "every other number of its answer is 0"
+abbrev pub no_figures : Sized
+no_figures =
+    record {
+      cover = 0;
+      weak = 0;
+      target = 0;
+      minimum = 0;
+      highest = 0;
+      own = 0;
+      quantum = 0;
+    }
+
+abbrev pub figures_said : Result Sized Refusal → Sized
+figures_said (Err refusal) = no_figures
+figures_said (Ok figures) = figures
+
+-- An answer in the paper's numbers and values: the number and the position of its refusal, and the figures where there is none.
+pub record Says (answer : Result Sized Refusal) (refusal : Option Refusal) (figures : Sized) : Type 0 where
+  pub number_is : sized_number answer ≡ refused_number refusal
+  pub position_is : sized_position answer ≡ refused_position refusal
+  pub figures_are : figures_said answer ≡ check (is_some refusal) no_figures figures

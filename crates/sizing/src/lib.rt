@@ -5,8 +5,10 @@ mod fund;
 
 ghost use Rattle.std.specs.Prelude.{◌≡◌, ◌≤◌, length, OnOk};
 ghost use Rattle.lists.specs.Limits.{member_limit, sum_limit};
+ghost use Rattle.sheets.specs.Columns.{columns_of};
+ghost use Rattle.cover.specs.Cover.{covered_of};
 ghost use Rattle.sizing.specs.Parts.{funded, judged};
-ghost use Rattle.sizing.specs.Sizing.{fund_refusal, sizing_refusal, sized_of, requirements_after};
+ghost use Rattle.sizing.specs.Sizing.{fund_refusal, fund_figures, sizing_refusal, sized_of, requirements_after, Says};
 ghost use Rattle.sizing.specs.Review.{review_due};
 
 use cover::Covered;
@@ -115,6 +117,7 @@ pub fn size(
     requirements: &mut [u64],
 ) -> Result<Sized, Refusal>
     ensures answer { result ≡ sized_of stress.now shares.now prevailing available (length requirements.old) }
+    ensures says { Says result (sizing_refusal stress.now shares.now prevailing available (length requirements.old)) (fund_figures (covered_of stress.now) (columns_of shares.now) prevailing available) }
     ensures requirements { requirements.new ≡ requirements_after stress.now shares.now prevailing available requirements.old }
 {
     let funded = judge(stress, shares, prevailing, available, requirements.len())?;

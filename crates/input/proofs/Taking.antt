@@ -1,30 +1,22 @@
--- Laws of the next line of what is read.
-use Rattle.std.proofs.Common.{ℕ, ◌+◌, ◌-◌, ◌<◌, ◌≤◌, ◌≡◌, ◌∙◌, List, Option, Some, None, Result, Ok, Err, min, length, take, drop, sym, ap, arith, length-take, length-drop}
+-- Laws of what is left, and of what is kept.
+use Rattle.std.proofs.Common.{ℕ, ◌+◌, ◌-◌, ◌≤◌, ◌≡◌, ◌∙◌, List, min, length, take, drop, sym, ap, arith, length-take, length-drop}
 use Rattle.std.specs.Io.{StartsWith}
-use Rattle.std.specs.Borrow.{Bor}
-use Rattle.std.proofs.lemmas.List.{take_min}
+use Rattle.std.proofs.lemmas.List.{take_min, drop-take, drop-drop, drop_min}
 use lib.Seq.{take-take}
-use Rattle.words.specs.declared.Unreadable.{Unreadable}
 use Rattle.words.specs.Bytes.{part}
-use Rattle.input.specs.Lines.{IsNext}
 
-module _ (found : Option ℕ) (bytes : List ℕ) where
-  pub next_none : found ≡ None → (r : Option (Result (Bor (List ℕ)) Unreadable)) → r ≡ None → IsNext found bytes r
-  next_none e r h = rw e h
-
-  module _ (n : ℕ) (e : found ≡ Some n) where
-    pub next_long : 4096 < n → (why : Unreadable) → IsNext found bytes (Some (Err why))
-    next_long h why = rw e h
-
-    pub next_line : n ≤ 4096 → (line : Bor (List ℕ)) → line.now ≡ take n bytes → IsNext found bytes (Some (Ok line))
-    next_line h line f = rw e (h, f)
-
--- the front of a part
-pub part_front : (bytes : List ℕ) (from have n : ℕ) → n ≤ length (part bytes from have)
-    → take (from + n - from) (drop from bytes) ≡ take n (part bytes from have)
-part_front bytes from have n h =
-    let e : from + n - from ≡ n = omega arith in
-    rw e (sym (take-take n (have - from) (drop from bytes) (omega (arith, length-take (have - from) (drop from bytes)))))
+-- what stands behind a line and its newline, where the last line may have none
+pub behind : (bytes : List ℕ) (from have n : ℕ) → have ≤ length bytes → from + n ≤ have
+    → part bytes (min have (from + n + 1)) have ≡ drop (n + 1) (part bytes from have)
+behind bytes from have n fits within =
+    let rest = part bytes from have in
+    let gone = min (n + 1) (have - from) in
+    let left = have - min have (from + n + 1) in
+    let start : min have (from + n + 1) ≡ from + gone = omega arith in
+    let all : gone + left ≡ have - from = omega arith in
+    let long : gone ≡ min (n + 1) (length rest) = omega (arith, length-take (have - from) (drop from bytes), length-drop from bytes) in
+    ap (λ i. take left (drop i bytes)) start ∙ ap (take left) (sym (drop-drop gone from bytes)) ∙ sym (drop-take gone left (drop from bytes))
+    ∙ ap (λ i. drop gone (take i (drop from bytes))) all ∙ ap (λ i. drop i rest) long ∙ drop_min (n + 1) rest
 
 -- what was read of a line stays: the bytes that are kept are moved to the front, and read behind
 pub kept_stays : (old front new : List ℕ) (from have limit kept end : ℕ) → have ≤ length old → kept ≡ min (have - from) limit → kept ≤ end

@@ -4,8 +4,10 @@
 ghost use Rattle.std.specs.Prelude.{◌≡◌, ◌==◌, ◌+◌, ◌<◌, ◌≤◌, [], false, min, length, take, drop};
 ghost use Rattle.std.specs.Result.{IfOk};
 ghost use Rattle.std.specs.Io.{StartsWith};
+ghost use Rattle.std.specs.Io.BufRead.{Rests};
+ghost use Rattle.std.specs.Borrow.{sem};
 ghost use Rattle.std.specs.List.{position};
-ghost use Rattle.input.specs.Lines.{length_of, IsNext};
+ghost use Rattle.input.specs.Lines.{length_of, left_of, number_after, IsNext};
 ghost use Rattle.std.specs.Option.{IfSome};
 
 use std::io::{self, Eprint, Input, Read};
@@ -66,6 +68,14 @@ fn read_behind(input: &mut impl Read, bytes: &mut [u8], kept: usize) -> io::Resu
     input.read(&mut bytes[kept..])
 }
 
+// The `count` bytes that begin at `from`.
+fn part_at(bytes: &[u8], from: usize, count: usize) -> &[u8]
+    requires { from + count ≤ length bytes.now }
+    ensures { result.now ≡ take count (drop from bytes.now) }
+{
+    &bytes[from..from + count]
+}
+
 /// The lines of an input: the bytes from `from` to `have` are read and still to be taken, and begin a line.
 #[derive(Drop)]
 pub struct Lines {
@@ -78,7 +88,8 @@ pub struct Lines {
 }
 
 impl Lines {
-    ghost use Rattle.input.specs.Rest.{rest_of, kept_of, has_ended};
+    ghost use Rattle.input.specs.Rest.{rest_of, kept_of, has_ended, IsBehind};
+    ghost use Rattle.input.specs.contracts.Lines.{the_row};
 
     /// An input of which nothing is read yet.
     pub fn new() -> Self
@@ -108,18 +119,32 @@ impl Lines {
         self.state
     }
 
+    // Goes behind the next line and its newline, where its end is there, and counts it. Gives how long the line is.
+    fn step(&mut self) -> Option<usize>
+        ensures length { result ≡ length_of (has_ended self.old.state) (rest_of self.old) }
+        ensures within { IfSome result (λ n. self.old.from + n ≤ self.old.have) }
+        ensures left { rest_of self.new ≡ left_of result (rest_of self.old) }
+        ensures counted { self.new.number ≡ number_after result self.old.number }
+        ensures same_state { self.new.state ≡ self.old.state }
+        ensures same_bytes { self.new.bytes ≡ self.old.bytes }
+    {
+        let length = line_length(&self.bytes[self.from..self.have], self.state.has_ended())?;
+        self.from = self.have.min(self.from + length + 1);
+        self.number = self.number.saturating_add(1);
+        Some(length)
+    }
+
     /// Takes the next line, where its end is there.
     pub fn next(&mut self) -> Option<Result<&[u8], Unreadable>>
-        ensures { IsNext (length_of (has_ended self.old.state) (rest_of self.old)) (rest_of self.old) result }
+        ensures line { IsNext (length_of (has_ended self.old.state) (rest_of self.old)) (rest_of self.old) result }
+        ensures* leaves { sem 𝓛 (Rests the_row self.entry (λ new. IsBehind (length_of (has_ended self.old.state) (rest_of self.old)) self.old new)) }
     {
         let from = self.from;
-        let length = line_length(&self.bytes[from..self.have], self.state.has_ended())?;
-        self.from = self.have.min(from + length + 1);
-        self.number = self.number.saturating_add(1);
+        let length = self.step()?;
         if LINE_LIMIT < length {
             return Some(Err(Unreadable));
         }
-        Some(Ok(&self.bytes[from..from + length]))
+        Some(Ok(part_at(&self.bytes, from, length)))
     }
 
     /// Reads on behind the bytes that are there. Of a line that is too long already, one byte more than it may have stands for the whole.

@@ -103,9 +103,12 @@ module _ (out₀ : List ℕ) (amount : ℕ) (out : List ℕ) (begin left followi
     pub end_asks : (length (digit_of d following) ≤ begin) × (begin ≤ length out) × (d < 10)
     end_asks = (has_room d [] all, inside d [] all, omega arith)
 
+    pub begins : (out₁ : List ℕ) (r : ℕ) → (r + length (digit_of d following) ≡ begin) × (out₁ ≡ take r out ++ digit_of d following ++ drop begin out) → r + length (indian_of amount) ≡ length out₀
+    unfolding indian_of
+    begins out₁ r w = omega (arith, (digit_put d [] all out₁ r w).0, ap (λ (s : List ℕ). length (with_commas s)) all)
+
     pub done : (out₁ : List ℕ) (r : ℕ) → (r + length (digit_of d following) ≡ begin) × (out₁ ≡ take r out ++ digit_of d following ++ drop begin out) → out₁ ≡ take (length out₀ - length (indian_of amount)) out₀ ++ indian_of amount
     unfolding indian_of
     done out₁ r w =
-        let put = digit_put d [] all out₁ r w in
-        let e : r ≡ length out₀ - length (with_commas (decimal_of amount)) = omega (arith, put.0, ap (λ (s : List ℕ). length (with_commas s)) all) in
-        put.1 ∙ rw (e, all) refl
+        let e : r ≡ length out₀ - length (with_commas (decimal_of amount)) = omega (arith, begins out₁ r w) in
+        (digit_put d [] all out₁ r w).1 ∙ rw (e, all) refl

@@ -27,10 +27,11 @@ fn put_digit(out: &mut [u8], end: usize, digit: u8, following: usize) -> usize
     end - 1
 }
 
-/// Puts an amount with Indian commas at the end of the slice. One division gives a digit and what is left.
-pub fn put_amount(out: &mut [u8], amount: u64)
+/// Puts an amount with Indian commas at the end of the slice. Answers the place where it begins. One division gives a digit and what is left.
+pub fn put_amount(out: &mut [u8], amount: u64) -> usize
     requires { length (indian_of amount) ≤ length out.old }
-    ensures { out.new ≡ take (length out.old - length (indian_of amount)) out.old ++ indian_of amount }
+    ensures begins { result + length (indian_of amount) ≡ length out.old }
+    ensures put { out.new ≡ take (length out.old - length (indian_of amount)) out.old ++ indian_of amount }
 {
     let mut begin = out.len();
     let mut left = amount;
@@ -42,5 +43,5 @@ pub fn put_amount(out: &mut [u8], amount: u64)
         left = tenth;
         following += 1;
     }
-    put_digit(out, begin, left as u8, following);
+    put_digit(out, begin, left as u8, following)
 }

@@ -1,5 +1,5 @@
 use Rattle.std.proofs.Common.{rules, arith, refl}
-use Rattle.indian_digits.proofs.Commas.{starts, few, turn_asks, turn, end_asks, done}
+use Rattle.indian_digits.proofs.Commas.{starts, few, turn_asks, turn, end_asks, begins, done}
 use Rattle.indian_digits.proofs.put_amount.Goals as goal
 
 pub loop-left-init : goal.loop-left-init
@@ -22,6 +22,10 @@ pub put_digit-requires : goal.put_digit-requires
 put_digit-requires c =
     end_asks _ _ _ _ _ _ c.loop-left.invariant c.requires _ c.loop-left-test.false (omega arith)
 
-pub returns : goal.returns
-returns c =
+pub returns-clause-begins : goal.returns-clause-begins
+returns-clause-begins c =
+    begins _ _ _ _ _ _ c.loop-left.invariant c.requires _ c.loop-left-test.false (omega arith) _ _ c.put_digit.ensures
+
+pub returns-clause-put : goal.returns-clause-put
+returns-clause-put c =
     done _ _ _ _ _ _ c.loop-left.invariant c.requires _ c.loop-left-test.false (omega arith) _ _ c.put_digit.ensures

@@ -17,4 +17,4 @@ pub returns : goal.returns
 unfolding row_of
 returns c =
     let k = amount_fits c.args.amount c.requires.1 in
-    rw c.copy_from_slice.ensures.after (row_put _ _ c.requires.0 k _ (rw c.copy_from_slice.ensures.after at c.put_amount.ensures))
+    rw c.copy_from_slice.ensures.after (row_put _ _ c.requires.0 k _ (rw c.copy_from_slice.ensures.after at c.put_amount.ensures.put))

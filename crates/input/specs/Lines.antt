@@ -1,5 +1,5 @@
 -- The line that bytes begin with.
-use Rattle.std.specs.Prelude.{ℕ, ◌+◌, ◌<◌, ◌≤◌, ◌≡◌, Bool, not, ◌&&◌, List, Option, Some, None, Result, Ok, Err, ◌==◌, cond, min, length, take, drop}
+use Rattle.std.specs.Prelude.{ℕ, ◌+◌, ◌-◌, ◌^◌, ◌<◌, ◌≤◌, ◌≡◌, Bool, not, ◌&&◌, List, Option, Some, None, Result, Ok, Err, ◌==◌, cond, min, length, take, drop}
 use Rattle.std.specs.Borrow.{Bor}
 use Rattle.std.specs.List.{position}
 use Rattle.words.specs.declared.Unreadable.{Unreadable}
@@ -21,7 +21,7 @@ left_of (Some n) bytes = drop (n + 1) bytes
 -- the number of the line behind it: it stays at the largest
 abbrev pub number_after : Option ℕ → ℕ → ℕ
 number_after None number = number
-number_after (Some n) number = min (number + 1) 18446744073709551615
+number_after (Some n) number = min (number + 1) (2 ^ 64 - 1)
 
 -- "A line may be at most 4,096 bytes long; a longer one is unreadable as a whole"
 abbrev pub IsLine : ℕ → List ℕ → Result (Bor (List ℕ)) Unreadable → Type 0

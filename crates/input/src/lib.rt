@@ -120,6 +120,7 @@ impl Lines {
     }
 
     // Goes behind the next line and its newline, where its end is there, and counts it. Gives how long the line is.
+    #[tactic(auto, using(crate::proofs::Taking::behind))]
     fn step(&mut self) -> Option<usize>
         ensures length { result ≡ length_of (has_ended self.old.state) (rest_of self.old) }
         ensures within { IfSome result (λ n. self.old.from + n ≤ self.old.have) }

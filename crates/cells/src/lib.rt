@@ -96,7 +96,8 @@ pub fn read_half(cell: &[u8]) -> Option<u16>
 pub fn read_amount(cell: &[u8]) -> Option<u32>
     ensures { result ≡ amount_of cell.now }
 {
-    let value = read_field(cell, MISSING_AMOUNT, MISSING_AMOUNT)?;
+    let missing = u64::from(MISSING_AMOUNT);
+    let value = read_field(cell, missing, missing)?;
     Some(value as u32)
 }
 

@@ -7,7 +7,7 @@ ghost use Rattle.lists.specs.Limits.{member_limit, amount_limit};
 ghost use Rattle.lists.specs.Sums.{total, plus, minus};
 ghost use Rattle.figures.specs.Figures.{of_member, figure, status_at, replace, status_of, is_live, of_live};
 
-use lists::MEMBER_LIMIT;
+use lists::{LAST_MEMBER, MEMBER_LIMIT};
 use std::array;
 
 /// How a member stands: not in the register, live, or in default.
@@ -34,7 +34,7 @@ impl Status {
 pub fn outside(member: u64) -> bool
     ensures { result ≡ (eqb member 0 || ltb member_limit member) }
 {
-    (member == 0) | ((MEMBER_LIMIT as u64) < member)
+    (member == 0) | (LAST_MEMBER < member)
 }
 
 // What stands at the number of a member, `nobody` of every other number.

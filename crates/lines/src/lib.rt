@@ -11,7 +11,7 @@ ghost use Rattle.lines.specs.Parts.{PoolRead, added, typed_in};
 
 use admission::Pools;
 use drill::DrillCall;
-use lists::POOL_LIMIT;
+use lists::{MISSING_RANK, POOL_LIMIT};
 use numbers::read_number;
 use typed_ranks::read_ranks;
 use words::{Unreadable, Words};
@@ -24,8 +24,8 @@ pub enum Line {
     Call(DrillCall),
 }
 
-// Ranks where none is given.
-const NO_RANKS: [[u8; 64]; 4] = [[255; 64]; 4];
+/// Ranks where none is given.
+pub const NO_RANKS: [[u8; 64]; 4] = [[MISSING_RANK; 64]; 4];
 
 // The next word as a number. A word that is not there is no number.
 fn number(words: &mut Words) -> Option<u64>
@@ -62,7 +62,7 @@ fn read_pool(words: &mut Words) -> Option<Pool>
     ensures pool { IfSome result (λ pool. PoolRead words.old pool words.new) }
 {
     let loss = number(words)?;
-    let mut ranks = [255; 64];
+    let mut ranks = [MISSING_RANK; 64];
     let more = read_ranks(words, &mut ranks)?;
     Some(Pool { loss, ranks, more })
 }

@@ -6,8 +6,14 @@
 // "Members are numbered 1 to 64."
 pub const MEMBER_LIMIT: usize = 64;
 
+// the same, as the highest member's number
+pub const LAST_MEMBER: u64 = MEMBER_LIMIT as u64;
+
 // "1 is most senior, 64 most junior"; document 02, request 2: "The limit of 64 becomes 24 in refusal 15"
 pub const RANK_LIMIT: u8 = 24;
+
+// "255 missing"
+pub const MISSING_RANK: u8 = 255;
 
 // document 02, request 3: "A default may name 1 to 4 pools"
 pub const POOL_LIMIT: usize = 4;
@@ -16,7 +22,7 @@ pub const POOL_LIMIT: usize = 4;
 pub const AMOUNT_LIMIT: u64 = 400_000_000;
 
 // "Hexadecimal FFFFFFFF means missing."
-pub const MISSING_AMOUNT: u64 = 0xffff_ffff;
+pub const MISSING_AMOUNT: u32 = 0xffff_ffff;
 
 // "a sum handed alone (..) is 0 to 25,600,000,000"
 pub const SUM_LIMIT: u64 = 25_600_000_000;
@@ -36,3 +42,8 @@ pub const WEAK_LIMIT: u64 = 5;
 
 // the largest amount on a printed page
 pub const PRINTED_LIMIT: u64 = 26_000_000_000;
+
+// A sheet is read as far as one record more than it may have: with that it is overlong.
+pub const STRESS_ROOM: usize = 16 * (STRESS_LIMIT + 1);
+
+pub const MEMBER_ROOM: usize = 16 * (MEMBER_LIMIT + 1);

@@ -4,23 +4,22 @@
 #![tactic(auto)]
 
 use input::{Lines, State};
+use lists::STRESS_ROOM;
 use rows::{Kind, Record, kind_named, read_row};
 use std::io::{Eprint, Input, Print};
 use std::rt::Env;
 use text::Text;
 use words::Unreadable;
 
-const ROOM: usize = 65552;
-
 // Puts a record behind the others, while there is room.
-fn add(sheet: &mut Text<ROOM>, record: Record) {
-    if sheet.len() + 16 <= ROOM {
+fn add(sheet: &mut Text<STRESS_ROOM>, record: Record) {
+    if sheet.len() + 16 <= STRESS_ROOM {
         sheet.put(&record.bytes());
     }
 }
 
 // Reads the lines to their end. Answers whether each is read; where one is not, there is a word on standard error.
-fn read_lines(rt: &(impl Input + Eprint), kind: Kind, sheet: &mut Text<ROOM>) -> bool {
+fn read_lines(rt: &(impl Input + Eprint), kind: Kind, sheet: &mut Text<STRESS_ROOM>) -> bool {
     let mut lines = Lines::new();
     for _ in 0..u64::MAX {
         let number = lines.number();

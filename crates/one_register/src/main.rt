@@ -3,6 +3,7 @@
 
 use admission::Pools;
 use drill::in_place::{close, declare, pay, replenish};
+use lists::MISSING_RANK;
 use rows::Record;
 use std::io::Print;
 use waterfall::opening::open;
@@ -66,7 +67,7 @@ fn main(rt: HostRuntime) {
     ]
     .map(|(member, amounts)| Record::Member { member, amounts }.bytes());
     let opened = open(records.as_flattened(), 22_000);
-    let mut ranks = [255; 64];
+    let mut ranks = [MISSING_RANK; 64];
     ranks[1] = 1;
     ranks[2] = 2;
     ranks[3] = 2;

@@ -17,6 +17,7 @@
 use cases::{Called, Case, bytes, cut, read_case};
 use drill::{DrillCall, apply};
 use files::read_all;
+use lists::MISSING_RANK;
 use refusal::Refusal;
 use std::io::Print;
 use waterfall::Register;
@@ -71,7 +72,7 @@ fn opening(rt: &impl Print, case: Case<'_>, own: u64) -> Register {
 
 // The ranks of up to five pools, 64 bytes each; 255 where a pool's say nothing.
 fn ranks_of(digits: &[u8]) -> [u8; 320] {
-    let mut ranks = [255; 320];
+    let mut ranks = [MISSING_RANK; 320];
     for (pool, digits) in ranks.chunks_mut(64).zip(digits.split(|b| *b == b';')) {
         bytes(pool, digits);
     }

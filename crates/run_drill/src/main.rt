@@ -10,8 +10,8 @@ ghost use Rattle.print_page.specs.Parts.{Printable};
 
 use drill::DrillCall;
 use input::{Lines, State};
-use lines::{Line, handed, read_line};
-use lists::MEMBER_LIMIT;
+use lines::{Line, NO_RANKS, handed, read_line};
+use lists::MEMBER_ROOM;
 use output::{make_room, write_out};
 use print_answers::{put_reply, put_unreadable};
 use print_page::{latest_of, put_page};
@@ -26,9 +26,6 @@ use words::Unreadable;
 
 // No answer is longer.
 const ANSWER_ROOM: usize = 16384;
-
-// A sheet is read as far as one record more than it may have: with that it is overlong.
-const SHEET_ROOM: usize = 16 * (MEMBER_LIMIT + 1);
 
 // A drill: its register as it stands, the latest default, ranks and slip of the latest call, and the answers that are not written yet.
 #[derive(Drop)]
@@ -50,7 +47,7 @@ impl Drill {
         Drill {
             register: opened.register,
             latest: None,
-            ranks: [[255; 64]; 4],
+            ranks: NO_RANKS,
             slip: [0; 128],
             answers,
         }
@@ -133,7 +130,7 @@ fn main(rt: HostRuntime) {
         let _ = eprintln!(&rt; "usage: run_drill REGISTER G");
         return;
     };
-    let mut room = [0; SHEET_ROOM];
+    let mut room = [0; MEMBER_ROOM];
     let Some(sheet) = files::read_sheet(&rt, 1, &mut room) else {
         return;
     };

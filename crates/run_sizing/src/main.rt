@@ -2,16 +2,11 @@
 #![tactic(auto)]
 
 use files::{number_at, read_sheet};
-use lists::{MEMBER_LIMIT, STRESS_LIMIT};
+use lists::{MEMBER_ROOM, STRESS_ROOM};
 use std::io;
 use std::io::{Eprint, Print};
 use std::rt::{Env, Files};
 use text::Text;
-
-// Sheets are read as far as one record more than they may have: with that they are overlong.
-const STRESS_ROOM: usize = 16 * (STRESS_LIMIT + 1);
-
-const SHARES_ROOM: usize = 16 * (MEMBER_LIMIT + 1);
 
 // P and V, where four arguments are given.
 fn arguments(rt: &impl Env) -> Option<(u64, u64)> {
@@ -40,7 +35,7 @@ fn read_and_size(rt: &(impl Env + Files + Print + Eprint), prevailing: u64, avai
     let Some(stress) = read_sheet(rt, 1, &mut stress) else {
         return;
     };
-    let mut shares = [0; SHARES_ROOM];
+    let mut shares = [0; MEMBER_ROOM];
     let Some(shares) = read_sheet(rt, 2, &mut shares) else {
         return;
     };

@@ -5,26 +5,22 @@ ghost use Rattle.sheets.specs.Members.{outside, missing, excessive, member_fault
 
 use crate::Record;
 use crate::bytes::{beyond, le32};
-use lists::AMOUNT_LIMIT;
+use lists::{AMOUNT_LIMIT, LAST_MEMBER, MISSING_AMOUNT};
 use refusal::Fault;
-
-const MEMBERS: u64 = lists::MEMBER_LIMIT as u64;
-
-const MISSING: u32 = lists::MISSING_AMOUNT as u32;
 
 // The member and the three zero bytes after it are one number here.
 #[tactic(auto, unfolding(crate::specs::Bytes::le32, crate::specs::Members::outside))]
 fn outside(bytes: &[u8; 16]) -> bool
     ensures { result ≡ outside bytes.now }
 {
-    beyond(1, MEMBERS, u64::from(le32(bytes, 0)))
+    beyond(1, LAST_MEMBER, u64::from(le32(bytes, 0)))
 }
 
 #[tactic(auto, unfolding(crate::specs::Members::missing))]
 fn missing(found: Record) -> bool
     ensures { result ≡ missing found }
 {
-    [found.first, found.second, found.third].contains(&MISSING)
+    [found.first, found.second, found.third].contains(&MISSING_AMOUNT)
 }
 
 #[tactic(auto, unfolding(crate::specs::Members::excessive))]

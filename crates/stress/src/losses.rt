@@ -7,23 +7,15 @@ ghost use Rattle.stress.specs.Stress.{weak_at, same_block, flags_before, passed,
 ghost use Rattle.stress.specs.Parts.{le64, block_beyond, stress_faulty};
 
 use crate::{Before, Loss};
-use lists::{AMOUNT_LIMIT, WEAK_LIMIT};
+use lists::{AMOUNT_LIMIT, DAY_LIMIT, LAST_MEMBER, MISSING_AMOUNT, SCENARIO_LIMIT, WEAK_LIMIT};
 use refusal::Fault;
 use sheets::bytes::{beyond, le16, le32};
-
-const DAYS: u64 = lists::DAY_LIMIT as u64;
-
-const SCENARIOS: u64 = lists::SCENARIO_LIMIT as u64;
-
-const MEMBERS: u64 = lists::MEMBER_LIMIT as u64;
-
-const MISSING: u32 = lists::MISSING_AMOUNT as u32;
 
 // Whether day and scenario are within their values.
 fn placed(bytes: &[u8; 16]) -> bool
     ensures { result ≡ not (block_beyond bytes.now) }
 {
-    !beyond(1, DAYS, u64::from(le16(bytes, 0))) & !beyond(1, SCENARIOS, u64::from(le16(bytes, 2)))
+    !beyond(1, DAY_LIMIT, u64::from(le16(bytes, 0))) & !beyond(1, SCENARIO_LIMIT, u64::from(le16(bytes, 2)))
 }
 
 #[tactic(auto, unfolding(crate::specs::Stress::stress_outside, sheets::specs::Bytes::le16, sheets::specs::Bytes::le32))]
@@ -31,7 +23,7 @@ fn outside(bytes: &[u8; 16]) -> bool
     ensures { result ≡ stress_outside bytes.now }
 {
     !placed(bytes)
-        | beyond(1, MEMBERS, u64::from(bytes[4]))
+        | beyond(1, LAST_MEMBER, u64::from(bytes[4]))
         | beyond(0, 1, u64::from(bytes[5]))
         | (le16(bytes, 6) != 0)
         | (le32(bytes, 12) != 0)
@@ -53,7 +45,7 @@ fn loss_to_end(bytes: &[u8; 16]) -> u64
 fn filled(bytes: &[u8; 16]) -> bool
     ensures { block_beyond bytes.now ≡ false → result ≡ not (stress_faulty bytes.now) }
 {
-    !beyond(1, MEMBERS, u64::from(bytes[4]))
+    !beyond(1, LAST_MEMBER, u64::from(bytes[4]))
         & !beyond(0, 1, u64::from(bytes[5]))
         & (le16(bytes, 6) == 0)
         & (loss_to_end(bytes) <= AMOUNT_LIMIT)
@@ -79,7 +71,7 @@ fn fault(bytes: &[u8; 16]) -> Fault
     if outside(bytes) {
         return Fault::Outside;
     }
-    if le32(bytes, 8) == MISSING {
+    if le32(bytes, 8) == MISSING_AMOUNT {
         return Fault::Missing;
     }
     Fault::Excessive

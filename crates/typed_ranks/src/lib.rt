@@ -8,11 +8,9 @@ ghost use Rattle.typed_ranks.specs.TypedRanks.{rank_of, unnamed, is_good, marked
 ghost use Rattle.typed_ranks.specs.Pools.{is_slash, to_slash, further_pools, pools_from};
 
 use cells::read_byte;
-use lists::MEMBER_LIMIT;
+use lists::LAST_MEMBER;
 use numbers::read_number;
 use words::{Words, find};
-
-const MEMBERS: u64 = MEMBER_LIMIT as u64;
 
 // The rank of a member, 1 to 64.
 #[derive(Clone, Copy)]
@@ -29,7 +27,7 @@ fn read_rank(word: &[u8]) -> Option<Rank>
     let colon = find(word, b':')?;
     let member = read_number(&word[..colon])?;
     let rank = read_byte(&word[colon + 1..])?;
-    if member == 0 || MEMBERS < member {
+    if member == 0 || LAST_MEMBER < member {
         return None;
     }
     Some(Rank { member, rank })

@@ -13,7 +13,7 @@ use borrow.Author.Tests.{eq-eqb, ne_eqb, lt-ltb, le-ltb}
 use Rattle.lists.specs.Limits.{member_limit, rank_limit, amount_limit}
 use Rattle.lists.specs.Sums.{total, plus}
 use Rattle.lists.proofs.Places.{by_order, raised}
-use Rattle.lists.proofs.Sums.{zeros, all_zeros, total_zeros, get_or_zeros, total-plus, plus_assoc, plus_none, none-plus, length-keep, keep-le, cond-le, keep-map_step}
+use Rattle.lists.proofs.Sums.{zeros, total_zeros, get_or_zeros, total-plus, plus_assoc, plus_none, none-plus, length-keep, keep-le, cond-le, keep-map_step}
 use Rattle.split.specs.Parts.{Splits}
 use Rattle.split.specs.Split.{split_of, exceeds}
 use Rattle.split.proofs.Laws.{length-split, total_within, total_of-none, split-within, split_whole, exceeds-none, splits_as}
@@ -53,7 +53,7 @@ adding_start n ws rs = ((λ q a h. omega (arith, get_or_zeros n q)), (λ q. omeg
 
 -- the marginal rank's split ----------------------------------------------------------
 
-pub shares_asked : (margin : Margin) (ws rs tied charges : List ℕ) → Weighed ws rs → Shared margin (at_rank margin.rank ws rs) charges → 0 < margin.part
+pub shares_asked : (margin : Margin) (ws rs tied charges : List ℕ) → Weighed ws rs → Shared margin (at_rank margin.rank ws rs) → 0 < margin.part
     → length ws ≡ member_limit → length rs ≡ member_limit → length charges ≡ member_limit → tied ≡ at_rank margin.rank ws rs
     → Splits margin.part margin.whole tied charges
 shares_asked margin ws rs tied charges w s p m n k e =
@@ -63,10 +63,10 @@ shares_asked margin ws rs tied charges w s p m n k e =
     k
 
 -- where a rank gives nothing, its shares are all 0
-pub unshared : (part : ℕ) (tied charges : List ℕ) → part ≡ 0 → length charges ≡ length tied → total charges ≡ 0
-    → (charges ≡ split_of part tied) × (false ≡ exceeds (split_of part tied) tied)
-unshared part tied charges z n t = (
-  all_zeros charges t ∙ zeros (length charges) (split_of part tied) (length-split part tied ∙ sym n) (total_within part tied (omega arith) ∙ z),
+pub unshared : (part : ℕ) (tied : List ℕ) → part ≡ 0 → length tied ≡ member_limit
+    → (replicate member_limit 0 ≡ split_of part tied) × (false ≡ exceeds (split_of part tied) tied)
+unshared part tied z n = (
+  zeros member_limit (split_of part tied) (length-split part tied ∙ n) (total_within part tied (omega arith) ∙ z),
   sym (exceeds-none (split_of part tied) tied (split-within part tied (omega arith))),
 )
 

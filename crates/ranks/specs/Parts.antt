@@ -49,9 +49,8 @@ pub record Marginal (sum : ℕ) (weights ranks : List ℕ) (margin : Margin) : T
   pub above_is : margin.total - margin.part ≡ total (above_rank margin.rank weights ranks)
   pub total_least : margin.part ≤ margin.total
 
--- what the marginal rank gives is shared over its weights, into charges that are all 0
-pub record Shared (margin : Margin) (tied charges : List ℕ) : Type 0 where
+-- what the marginal rank gives is shared over its weights
+pub record Shared (margin : Margin) (tied : List ℕ) : Type 0 where
   pub part_fits : margin.part ≤ allocation_limit
   pub part_within : margin.part ≤ total tied
   pub whole_is : 0 < margin.part → margin.whole ≡ total tied
-  pub none : total charges ≡ 0

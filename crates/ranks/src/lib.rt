@@ -13,17 +13,19 @@ ghost use Rattle.ranks.specs.Parts.{Weighed, Totals, Passed, Next, Marginal, Sha
 
 use lists::RANK_LIMIT;
 
-// A place for each rank, and place 0 for what has none.
+// A place for each rank. Place 0 takes what has no rank, so that no loop tests for it.
 const RANKS: usize = RANK_LIMIT as usize + 1;
 
-// The total of the charges, and whether one comes out above its weight.
+// The charges, their total, and whether one comes out above its weight.
 #[derive(Drop)]
 pub struct Charged {
+    pub charges: [u64; 64],
     pub total: u64,
+    // A flag, and no Result: the total and the charges are promised either way, and an error would carry neither.
     pub over: bool,
 }
 
-// Each member's weight and rank. Rank 0 is none: nobody of it is charged.
+// Each member's weight and rank. Rank 0 is none, and nobody of it is charged: the ranks are bytes as they were lent, and no list of options is made.
 #[derive(Drop)]
 struct Ranked<'a> {
     weights: &'a [u32; 64],
@@ -128,18 +130,20 @@ impl Ranked<'_> {
 }
 
 impl Margin {
-    // What the rank gives, shared over its members' weights: the charges, so far all 0, become its shares. The answer is whether a share comes
-    // out above its weight. Where the rank gives nothing, nothing is split.
-    fn share(self, ranked: &Ranked, charges: &mut [u64; 64]) -> bool
-        requires { Shared self (at_rank self.rank ranked.now.weights.now ranked.now.ranks.now) charges.old }
-        ensures charges_after { charges.new ≡ split_of self.part (at_rank self.rank ranked.now.weights.now ranked.now.ranks.now) }
-        ensures over_is { let tied = at_rank self.rank ranked.now.weights.now ranked.now.ranks.now in result ≡ exceeds (split_of self.part tied) tied }
+    // What the rank gives, shared over its members' weights: the shares, and whether one comes out above its weight. Where the rank gives nothing,
+    // nothing is split.
+    fn share(self, ranked: &Ranked) -> ([u64; 64], bool)
+        requires { Shared self (at_rank self.rank ranked.now.weights.now ranked.now.ranks.now) }
+        ensures shares_are { result.0 ≡ split_of self.part (at_rank self.rank ranked.now.weights.now ranked.now.ranks.now) }
+        ensures over_is { let tied = at_rank self.rank ranked.now.weights.now ranked.now.ranks.now in result.1 ≡ exceeds (split_of self.part tied) tied }
     {
+        let mut shares = [0; 64];
         if self.part == 0 {
-            return false;
+            return (shares, false);
         }
         let tied = ranked.weights_at(self.rank);
-        split::split(self.part, self.whole, &tied, charges)
+        let over = split::split(self.part, self.whole, &tied, &mut shares);
+        (shares, over)
     }
 
     // The ranks above are charged whole: their weights are added to the charges. Where they have nothing, nothing is added.
@@ -155,32 +159,27 @@ impl Margin {
     }
 }
 
-// `sum` charged to `weights` by rank, into charges that are lent and so far all 0. The total needs no second addition: it is the sum, less what no
-// rank could give.
-pub fn charge_by_rank(
-    sum: u64,
-    weights: &[u32; 64],
-    ranks: &[u8; 64],
-    charges: &mut [u64; 64],
-) -> Charged
+// `sum` charged to `weights` by rank. The total needs no second addition: it is the sum, less what no rank could give.
+pub fn charge_by_rank(sum: u64, weights: &[u32; 64], ranks: &[u8; 64]) -> Charged
     requires moderate { sum ≤ allocation_limit }
     requires weighed { Weighed weights.now ranks.now }
-    requires uncharged { total charges.old ≡ 0 }
-    ensures charges_after { charges.new ≡ charges_of sum weights.now ranks.now }
+    ensures charges_are { result.charges ≡ charges_of sum weights.now ranks.now }
     ensures total_is { result.total ≡ total (charges_of sum weights.now ranks.now) }
     ensures over_is { result.over ≡ exceeds (charges_of sum weights.now ranks.now) weights.now }
 {
     if sum == 0 {
         return Charged {
+            charges: [0; 64],
             total: 0,
             over: false,
         };
     }
     let ranked = Ranked { weights, ranks };
     let margin = ranked.margin(sum);
-    let over = margin.share(&ranked, charges);
-    margin.charge_above(&ranked, charges);
+    let (mut charges, over) = margin.share(&ranked);
+    margin.charge_above(&ranked, &mut charges);
     Charged {
+        charges,
         total: margin.total,
         over,
     }

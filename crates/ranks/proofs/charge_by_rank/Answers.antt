@@ -3,9 +3,10 @@ use Prim.Native.Nat.{ℕ}
 use mathlib.Core.Path.{◌≡◌, ap, sym, ◌∙◌}
 use mathlib.Core.List.{List}
 use native.Mathlib.Omega.{arith}
-use lib.ListN.{length, get_or}
+use lib.ListN.{get_or}
 use Rattle.lists.specs.Sums.{total}
-use Rattle.lists.proofs.Sums.{zeros, all_zeros}
+use Rattle.lists.specs.Limits.{member_limit}
+use Rattle.lists.proofs.Sums.{zeros}
 use Rattle.split.proofs.Laws.{split-le, split-within, exceeds-none}
 use Rattle.ranks.specs.Ranks.{at_rank, charges_of}
 use Rattle.ranks.proofs.Laws.{length-charges, charges-within, charge-within}
@@ -16,7 +17,7 @@ returns-then-sum-eq0 c =
     let a = c.args in
     let cs : List ℕ = charges_of a.sum a.weights.now a.ranks.now in
     let none : total cs ≡ 0 = omega (arith, charges-within a.sum a.weights.now a.ranks.now, c.if-sum-eq0.true) in record {
-      charges_after = all_zeros a.charges.now c.requires.uncharged ∙ zeros (length a.charges.now) cs (omega (arith, length-charges a.sum a.weights.now a.ranks.now (omega arith))) none;
+      charges_are = zeros member_limit cs (omega (arith, length-charges a.sum a.weights.now a.ranks.now (omega arith))) none;
       total_is = sym none;
       over_is = sym (exceeds-none cs a.weights.now (charge-within a.sum a.weights.now a.ranks.now));
     }
@@ -27,7 +28,7 @@ charge_above-requires-clause-charges_fit c k =
     let m = c.margin-margin in
     omega (
       arith,
-      ap (λ (xs : List ℕ). get_or xs k 0) c.share-over.ensures.charges_after,
+      ap (λ (xs : List ℕ). get_or xs k 0) c.share-over.ensures.shares_are,
       split-le m.result.part (at_rank m.result.rank a.weights.now a.ranks.now) k,
       m.ensures.part_fits,
     )

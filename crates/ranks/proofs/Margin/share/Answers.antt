@@ -1,5 +1,5 @@
 -- `ranks::Margin::share` meets its contract.
-use mathlib.Core.Path.{sym, ◌∙◌}
+use mathlib.Core.Path.{refl, sym, ◌∙◌}
 use native.Mathlib.Omega.{arith}
 use Rattle.ranks.specs.Ranks.{at_rank}
 use Rattle.ranks.proofs.Laws.{length_at}
@@ -10,11 +10,11 @@ pub returns-then-self-eq0 : goal.returns-then-self-eq0
 returns-then-self-eq0 c =
     let a = c.args in
     let s = a.ranked.now in
-    let parts = unshared a.self.part (at_rank a.self.rank s.weights.now s.ranks.now) a.charges.now c.if-self-eq0.true
-    (omega (arith, length_at a.self.rank s.weights.now s.ranks.now (s.as_many ∙ sym s.long), s.long)) c.requires.none in record { charges_after = parts.0; over_is = parts.1 }
+    let parts = unshared a.self.part (at_rank a.self.rank s.weights.now s.ranks.now) c.if-self-eq0.true
+    (omega (arith, length_at a.self.rank s.weights.now s.ranks.now (s.as_many ∙ sym s.long), s.long)) in record { shares_are = parts.0; over_is = parts.1 }
 
-pub split-requires : goal.split-requires
-split-requires c =
+pub split-over-requires : goal.split-over-requires
+split-over-requires c =
     let a = c.args in
     let s = a.ranked.now in
-    shares_asked a.self s.weights.now s.ranks.now _ _ s.weighed c.requires (omega (arith, c.if-self-eq0.false)) s.long s.as_many (omega arith) c.weights_at-tied.ensures
+    shares_asked a.self s.weights.now s.ranks.now _ _ s.weighed c.requires (omega (arith, c.if-self-eq0.false)) s.long s.as_many refl c.weights_at-tied.ensures

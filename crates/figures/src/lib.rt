@@ -23,9 +23,19 @@ impl Status {
     pub fn if_live<T: Copy>(self, value: T, nothing: T) -> T
         ensures { result ≡ cond (is_live self) value nothing }
     {
-        match self {
-            Status::Live => value,
-            Status::Absent | Status::InDefault => nothing,
+        if self == Status::Live { value } else { nothing }
+    }
+}
+
+// Who is present in a register of which nobody is in default is live.
+impl From<bool> for Status {
+    ghost from_gives = { λ present status. status ≡ status_of present };
+
+    fn from(present: bool) -> Status {
+        if present {
+            Status::Live
+        } else {
+            Status::Absent
         }
     }
 }
@@ -61,12 +71,21 @@ pub fn status_at(status: &[Status; 64], member: u64) -> Status
     of_member(status, member, Status::Absent)
 }
 
+// What stands at a member's number, replaced. Its being 1 to 64 is a clause, and no type: a call's number may be any, and refusal 11 answers it, so
+// that a type made of it would test it once more.
+fn put<T: Copy>(items: &mut [T; 64], member: u64, item: T)
+    requires { (0 < member) × (member ≤ member_limit) }
+    ensures { items.new ≡ replace items.old member item }
+{
+    items[(member - 1) as usize] = item;
+}
+
 // The statuses once a member is in default: those that are live are the others.
 pub fn defaulted(mut status: [Status; 64], member: u64) -> [Status; 64]
     requires { (0 < member) × (member ≤ member_limit) }
     ensures { result ≡ replace status member Status.InDefault }
 {
-    status[(member - 1) as usize] = Status::InDefault;
+    put(&mut status, member, Status::InDefault);
     status
 }
 
@@ -75,7 +94,7 @@ pub fn replace(figures: &mut [u32; 64], member: u64, figure: u64)
     requires { (0 < member) × (member ≤ member_limit) × (figure ≤ amount_limit) }
     ensures { figures.new ≡ replace figures.old member figure }
 {
-    figures[(member - 1) as usize] = figure as u32;
+    put(figures, member, figure as u32);
 }
 
 // The figures with an amount taken from that of a member.
@@ -83,11 +102,12 @@ pub fn lower(figures: &mut [u32; 64], member: u64, amount: u64)
     requires { (0 < member) × (member ≤ member_limit) × (amount ≤ figure figures.old member) }
     ensures { figures.new ≡ replace figures.old member (figure figures.old member - amount) }
 {
-    let at = (member - 1) as usize;
-    figures[at] = (u64::from(figures[at]) - amount) as u32;
+    let left = figure_of(figures, member) - amount;
+    put(figures, member, left as u32);
 }
 
-// The figures with the amounts taken from them, place by place.
+// The figures with the amounts taken from them, place by place. No one function for this and `add_to`: they differ in the operation and in what it asks,
+// and `add_to` does nothing where there is nothing.
 pub fn take_from(figures: &mut [u32; 64], amounts: &[u64; 64])
     requires { (k : ℕ) → get_or amounts.now k 0 ≤ get_or figures.old k 0 }
     ensures { figures.new ≡ minus figures.old amounts.now }
@@ -123,21 +143,11 @@ pub fn write(lent: &mut [u64], start: usize, figures: &[u64; 64])
     lent[start..start + MEMBER_LIMIT].copy_from_slice(figures);
 }
 
-fn status_of(present: bool) -> Status
-    ensures { result ≡ status_of present }
-{
-    if present {
-        Status::Live
-    } else {
-        Status::Absent
-    }
-}
-
 // The statuses of a register of which nobody is in default: who is present is live.
 pub fn statuses(present: [bool; 64]) -> [Status; 64]
     ensures { result ≡ map status_of present }
 {
-    present.map(status_of)
+    present.map(Status::from)
 }
 
 // What a list has of each live member; of everyone else, `nothing`.

@@ -1,5 +1,5 @@
 -- Sums of lists of numbers, and lists taken place by place.
-use Rattle.std.specs.Prelude.{ℕ, ◌+◌, ◌-◌, Bool, cond, List, [], ◌∷◌}
+use Rattle.std.specs.Prelude.{ℕ, ◌+◌, ◌-◌, ◌≤◌, Bool, cond, List, [], ◌∷◌, get_or}
 
 -- the numbers of a list, added
 abbrev pub total : List ℕ → ℕ
@@ -23,3 +23,7 @@ abbrev pub keep : List Bool → List ℕ → List ℕ
 keep [] xs = []
 keep (b ∷ bs) [] = []
 keep (b ∷ bs) (x ∷ xs) = cond b x 0 ∷ keep bs xs
+
+-- no number of a list is above a bound
+abbrev pub AtMost : List ℕ → ℕ → Type 0
+AtMost xs bound = (k : ℕ) → get_or xs k 0 ≤ bound

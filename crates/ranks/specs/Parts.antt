@@ -2,15 +2,15 @@
 -- charged in part: those above it are charged whole, and those below it nothing.
 use Rattle.std.specs.Prelude.{ℕ, Bool, ◌-◌, ◌≤◌, ◌<◌, ◌≡◌, List, map, ltb, get_or}
 use Rattle.lists.specs.Limits.{rank_limit, amount_limit, allocation_limit}
-use Rattle.lists.specs.Sums.{total, plus, keep}
+use Rattle.lists.specs.Sums.{total, plus, keep, AtMost}
 use Rattle.split.specs.Split.{split_of}
 use Rattle.ranks.specs.Ranks.{at_rank, charges_of}
 use Rattle.ranks.specs.declared.Margin.{Margin}
 
 -- what each part needs of the weights and the ranks. Rank 0 is none: nobody of it is charged.
 pub record Weighed (weights ranks : List ℕ) : Type 0 where
-  pub weights_fit : (k : ℕ) → get_or weights k 0 ≤ amount_limit
-  pub ranks_fit : (k : ℕ) → get_or ranks k 0 ≤ rank_limit
+  pub weights_fit : AtMost weights amount_limit
+  pub ranks_fit : AtMost ranks rank_limit
 
 -- the answers that a closure may give are those of a test
 abbrev pub Answers : (ℕ → Bool → Type 0) → (ℕ → Bool) → Type 0

@@ -4,9 +4,9 @@
 // charged whole or not at all costs a division.
 #![tactic(auto)]
 
-ghost use Rattle.std.specs.Prelude.{◌≡◌, ℕ, Bool, ◌≤◌, ◌-◌, length, get_or, MatchOption};
+ghost use Rattle.std.specs.Prelude.{◌≡◌, ℕ, Bool, ◌≤◌, ◌-◌, length, MatchOption};
 ghost use Rattle.lists.specs.Limits.{member_limit, rank_limit, allocation_limit};
-ghost use Rattle.lists.specs.Sums.{total, plus};
+ghost use Rattle.lists.specs.Sums.{total, plus, AtMost};
 ghost use Rattle.split.specs.Split.{split_of, exceeds};
 ghost use Rattle.ranks.specs.Ranks.{at_rank, charges_of};
 ghost use Rattle.ranks.specs.Parts.{Weighed, Totals, Passed, Next, Marginal, Shared, Answers, chosen_by, above_rank};
@@ -108,7 +108,7 @@ impl Ranked<'_> {
     // The weights of the ranks that are chosen, added to the charges.
     fn add_chosen<F: Fn(u8) -> bool>(&self, chosen: F, charges: &mut [u64; 64])
         requires callable { F.IsAlwaysCallable chosen }
-        requires charges_fit { (k : ℕ) → get_or charges.old k 0 ≤ allocation_limit }
+        requires charges_fit { AtMost charges.old allocation_limit }
         ensures { (test : ℕ → Bool) → Answers (F.post chosen) test
             → charges.new ≡ plus (chosen_by test self.now.weights.now self.now.ranks.now) charges.old }
     {
@@ -149,7 +149,7 @@ impl Margin {
     // The ranks above are charged whole: their weights are added to the charges. Where they have nothing, nothing is added.
     fn charge_above(self, ranked: &Ranked, charges: &mut [u64; 64])
         requires above_is { self.total - self.part ≡ total (above_rank self.rank ranked.now.weights.now ranked.now.ranks.now) }
-        requires charges_fit { (k : ℕ) → get_or charges.old k 0 ≤ allocation_limit }
+        requires charges_fit { AtMost charges.old allocation_limit }
         ensures { charges.new ≡ plus (above_rank self.rank ranked.now.weights.now ranked.now.ranks.now) charges.old }
     {
         if self.total == self.part {

@@ -1,13 +1,13 @@
 -- What the parts of `rooms` promise each other and their callers. No rule of document 01 is here.
 use Rattle.std.specs.Prelude.{ℕ, ◌-◌, ◌≤◌, ◌≡◌, Bool, List, get_or}
 use Rattle.lists.specs.Limits.{amount_limit}
-use Rattle.lists.specs.Sums.{total}
+use Rattle.lists.specs.Sums.{total, AtMost}
 use Rattle.split.specs.Split.{split_of, exceeds}
 use Rattle.rooms.specs.Rooms.{gives}
 
 -- what rooms are found with
 pub record Roomy (most taken : List ℕ) : Type 0 where
-  pub most_fits : (k : ℕ) → get_or most k 0 ≤ amount_limit
+  pub most_fits : AtMost most amount_limit
   pub taken_fits : (k : ℕ) → get_or taken k 0 ≤ get_or most k 0
 
 -- a layer gives `given` of `left`, and leaves `rest`

@@ -2,12 +2,10 @@
 use Prim.Native.Nat.{ℕ, ◌+◌, ◌<◌, max}
 use mathlib.Core.Path.{◌≡◌, ap, sym, ◌∙◌}
 use mathlib.Core.Bool.{Bool, false, cond}
-use mathlib.Core.List.{List, [], ◌∷◌, map}
+use mathlib.Core.List.{List, map}
 use native.Mathlib.Omega.{arith}
-use Rattle.std.specs.List.{fold}
 use Rattle.std.proofs.lemmas.List.{get_or-map}
 use lib.ListN.{length, get_or, replicate, length-map}
-use Rattle.lists.specs.Highest.{highest}
 use Rattle.lists.specs.Limits.{member_limit, contribution_floor}
 use Rattle.lists.specs.Sums.{total, plus, keep}
 use Rattle.lists.proofs.Sums.{all_zeros, length-plus, get_or-plus, length-keep, get_or-keep}
@@ -52,12 +50,3 @@ pub requirements_joined : (q : ℕ) (columns : Columns) (present : List Bool) (m
     → joined_of present margin stress volume ≡ requirements_of q columns
 unfolding requirements_of parts_of
 requirements_joined q columns present margin stress volume p m s v = rw (p, m, s, v)
-
--- the highest of a list as std has it
-fold_highest : (a : ℕ) (xs : List ℕ) → fold max a xs ≡ max a (highest xs)
-unfolding highest
-fold_highest a [] = omega arith
-fold_highest a (x ∷ xs) = omega (arith, fold_highest (max a x) xs)
-
-pub highest_as_fold : (xs : List ℕ) → fold max 0 xs ≡ highest xs
-highest_as_fold xs = omega (arith, fold_highest 0 xs)

@@ -6,11 +6,11 @@ use Rattle.requirements.specs.Requirements.{average_volumes, average_margins, st
 use Rattle.requirements.specs.declared.ByColumn.{ByColumn}
 
 -- what the columns add to
-pub record Totalled (columns : Columns) (totals : ByColumn) : Type 0 where
+pub record Totalled (columns : Columns) (totals : ByColumn ℕ) : Type 0 where
   pub volumes_add : totals.volume ≡ total (average_volumes columns)
   pub margins_add : totals.margin ≡ total (average_margins columns)
   pub stresses_add : totals.stress ≡ total (stress_losses columns)
 
 -- the parts of a quantum, by column
-abbrev pub parts_of_quantum : ℕ → ByColumn
+abbrev pub parts_of_quantum : ℕ → ByColumn ℕ
 parts_of_quantum q = record { volume = volume_part q; margin = margin_part q; stress = stress_part q }

@@ -1,7 +1,7 @@
 // A quantum shared over the columns of a shares sheet: document 01, "Stress sheet and sizing", refusals 9 and 10.
 #![tactic(auto)]
 
-ghost use Rattle.std.specs.Prelude.{◌≡◌, cond, ◌&&◌, ℕ, ◌+◌, ◌≤◌, max, eqb, map, length, get_or};
+ghost use Rattle.std.specs.Prelude.{◌≡◌, cond, ◌&&◌, ℕ, ◌+◌, ◌^◌, ◌≤◌, ◌<◌, max, eqb, map, length, get_or};
 ghost use Rattle.lists.specs.Highest.{highest as highest_of_all};
 ghost use Rattle.lists.specs.Limits.{member_limit, amount_limit, allocation_limit, contribution_floor};
 ghost use Rattle.lists.specs.Sums.{total, plus, keep};
@@ -17,19 +17,19 @@ use sheets::columns::Columns;
 use std::array;
 use std::marker::Model;
 
-// A number for each column of a shares sheet: what the column adds to, or the part of a quantum that goes by it.
+// Something for each column of a shares sheet: what the column adds to, the part of a quantum that goes by it, or that part shared out.
 #[derive(Clone, Copy)]
-struct ByColumn {
-    volume: u64,
-    margin: u64,
-    stress: u64,
+struct ByColumn<T> {
+    volume: T,
+    margin: T,
+    stress: T,
 }
 
 // The columns of a shares sheet, with what they add to.
 #[derive(Drop)]
 pub struct SharesSheet {
     columns: Columns,
-    totals: ByColumn,
+    totals: ByColumn<u64>,
 }
 
 impl Model for SharesSheet {
@@ -50,21 +50,22 @@ pub struct Shared {
     pub requirements: [u64; 64],
 }
 
-fn added(column: &[u32]) -> u64
-    requires { length column.now ≤ member_limit }
-    ensures { result ≡ total column.now }
+// A column in the size of sums, as the split and the sum of a list take it.
+fn wide(column: &[u32; 64]) -> [u64; 64]
+    ensures same { result ≡ column.now }
+    ensures small { total result < 2 ^ 64 }
 {
-    column.iter().map(|&amount| u64::from(amount)).sum()
+    column.map(u64::from)
 }
 
 fn highest(numbers: &[u64; 64]) -> u64
     ensures { result ≡ highest_of_all numbers.now }
 {
-    numbers.iter().fold(0, |most, &number| most.max(number))
+    numbers.iter().copied().max().unwrap_or(0)
 }
 
 // "Q/4 rounded down goes by initial margin, as much by stress loss, the remainder by volume"
-fn parts_of(quantum: u64) -> ByColumn
+fn parts_of(quantum: u64) -> ByColumn<u64>
     ensures { result ≡ parts_of_quantum quantum }
 {
     let quarter = quantum / 4;
@@ -93,7 +94,7 @@ fn part(sum: u64, whole: u64, weights: &[u32; 64]) -> [u64; 64]
     if sum == 0 {
         return shares;
     }
-    split::split(sum, whole, &weights.map(u64::from), &mut shares);
+    split::split(sum, whole, &wide(weights), &mut shares);
     shares
 }
 
@@ -109,18 +110,18 @@ fn requirement(present: bool, margin: u64, stress: u64, volume: u64) -> u64
 }
 
 // The requirements by member number.
-fn joined(
-    present: &[bool; 64],
-    margin: &[u64; 64],
-    stress: &[u64; 64],
-    volume: &[u64; 64],
-) -> [u64; 64]
-    requires margin_fits { (k : ℕ) → get_or margin.now k 0 ≤ allocation_limit }
-    requires stress_fits { (k : ℕ) → get_or stress.now k 0 ≤ allocation_limit }
-    requires volume_fits { (k : ℕ) → get_or volume.now k 0 ≤ allocation_limit }
-    ensures { result ≡ keep present.now (map (max contribution_floor) (plus margin.now (plus stress.now volume.now))) }
+fn joined(present: &[bool; 64], shares: &ByColumn<[u64; 64]>) -> [u64; 64]
+    requires volume_fits { (k : ℕ) → get_or shares.now.volume k 0 ≤ allocation_limit }
+    requires margin_fits { (k : ℕ) → get_or shares.now.margin k 0 ≤ allocation_limit }
+    requires stress_fits { (k : ℕ) → get_or shares.now.stress k 0 ≤ allocation_limit }
+    ensures { result ≡ keep present.now (map (max contribution_floor) (plus shares.now.margin (plus shares.now.stress shares.now.volume))) }
 {
-    array::from_fn(|i| requirement(present[i], margin[i], stress[i], volume[i]))
+    array::from_fn(|i| requirement(
+        present[i],
+        shares.margin[i],
+        shares.stress[i],
+        shares.volume[i],
+    ))
 }
 
 impl SharesSheet {
@@ -129,31 +130,35 @@ impl SharesSheet {
         ensures { result ≡ columns }
     {
         let totals = ByColumn {
-            volume: added(&columns.first),
-            margin: added(&columns.second),
-            stress: added(&columns.third),
+            volume: figures::total(&wide(&columns.first)),
+            margin: figures::total(&wide(&columns.second)),
+            stress: figures::total(&wide(&columns.third)),
         };
         SharesSheet { columns, totals }
     }
 
     // Refusal 9.
     #[tactic(auto, unfolding(crate::specs::Requirements::any_unshared))]
-    fn any_unshared(&self, parts: ByColumn) -> bool
-        ensures { (quantum : ℕ) → parts ≡ parts_of_quantum quantum → result ≡ any_unshared quantum self.now }
+    fn any_unshared(&self, quantum: u64) -> bool
+        ensures { result ≡ any_unshared quantum self.now }
     {
+        let parts = parts_of(quantum);
         unshared(parts.margin, self.totals.margin)
             || unshared(parts.stress, self.totals.stress)
             || unshared(parts.volume, self.totals.volume)
     }
 
-    fn requirements(&self, parts: ByColumn) -> [u64; 64]
-        requires { (parts.margin ≤ allocation_limit) × (parts.stress ≤ allocation_limit) × (parts.volume ≤ allocation_limit) }
-        ensures { (quantum : ℕ) → parts ≡ parts_of_quantum quantum → result ≡ requirements_of quantum self.now }
+    fn requirements(&self, quantum: u64) -> [u64; 64]
+        requires { quantum ≤ allocation_limit }
+        ensures { result ≡ requirements_of quantum self.now }
     {
-        let margin = part(parts.margin, self.totals.margin, &self.columns.second);
-        let stress = part(parts.stress, self.totals.stress, &self.columns.third);
-        let volume = part(parts.volume, self.totals.volume, &self.columns.first);
-        joined(&self.columns.present, &margin, &stress, &volume)
+        let parts = parts_of(quantum);
+        let shares = ByColumn {
+            volume: part(parts.volume, self.totals.volume, &self.columns.first),
+            margin: part(parts.margin, self.totals.margin, &self.columns.second),
+            stress: part(parts.stress, self.totals.stress, &self.columns.third),
+        };
+        joined(&self.columns.present, &shares)
     }
 
     // A quantum shared, refused or not.
@@ -161,7 +166,7 @@ impl SharesSheet {
         requires { quantum ≤ allocation_limit }
         ensures { result ≡ shared_of quantum self.now }
     {
-        let requirements = self.requirements(parts_of(quantum));
+        let requirements = self.requirements(quantum);
         Shared {
             highest: highest(&requirements),
             requirements,
@@ -174,7 +179,7 @@ impl SharesSheet {
         requires { quantum ≤ allocation_limit }
         ensures { result ≡ answered (sharing_refusal quantum self.now) (shared_of quantum self.now) }
     {
-        if self.any_unshared(parts_of(quantum)) {
+        if self.any_unshared(quantum) {
             return Err(Refusal::Unshared);
         }
         let shared = self.shared(quantum);

@@ -1,10 +1,13 @@
 -- `requirements::highest` meets its contract.
-use Prim.Native.Nat.{max}
-use mathlib.Core.Path.{◌≡◌, ◌∙◌}
-use borrow.Author.Rules.{rules}
-use Rattle.std.specs.List.{fold}
-use Rattle.requirements.proofs.Sharing.{highest_as_fold}
+use Rattle.std.proofs.Common.{refl, arith, rules}
+use Rattle.std.proofs.lemmas.Grind.{common_steps}
+use Rattle.std.proofs.lemmas.List.Recursion.{max_bounds, max_least}
+use Rattle.lists.specs.Highest.{highest}
 use Rattle.requirements.proofs.highest.Goals as goal
 
 pub returns : goal.returns
-returns c = let e : c.fold.result ≡ fold max 0 c.args.numbers.now = search rules in e ∙ highest_as_fold c.args.numbers.now
+unfolding highest
+returns c =
+    let bounds = max_bounds highest (λ x. x) refl (λ _ _. refl) c.args.numbers.now in
+    let least = max_least highest (λ x. x) refl (λ _ _. refl) c.args.numbers.now 0 c.unwrap_or.result (search rules) in
+    grind (arith, common_steps, bounds, least)

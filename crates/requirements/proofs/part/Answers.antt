@@ -1,11 +1,9 @@
 -- `requirements::part` meets its contract.
-use mathlib.Core.Path.{◌≡◌, ap, ◌∙◌}
+use mathlib.Core.Path.{ap, ◌∙◌}
 use native.Mathlib.Omega.{arith}
-use borrow.Author.Rules.{rules}
 use Rattle.lists.proofs.Sums.{zeros_within}
 use Rattle.split.specs.Split.{split_of}
 use Rattle.split.proofs.Laws.{split-le, splits_as}
-use Rattle.figures.proofs.Made.{mapped_as}
 use Rattle.requirements.proofs.Sharing.{no-shares, total_of-none_at}
 use Rattle.requirements.proofs.part.Goals as goal
 
@@ -18,12 +16,10 @@ returns-then-sum-eq0 c = record {
 pub split-requires : goal.split-requires
 split-requires c =
     let a = c.args in
-    let e : c.map.result ≡ a.weights.now = mapped_as _ _ 0 0 _ _ _ (λ i y p q h k. search rules) (omega arith) c.map.ensures.items in
-    splits_as a.sum a.whole c.map.result a.weights.now _ e c.requires.moderate c.requires.whole_is c.requires.weights_fit (omega arith) (omega arith)
+    splits_as a.sum a.whole c.wide.result a.weights.now _ c.wide.ensures.same c.requires.moderate c.requires.whole_is c.requires.weights_fit (omega arith) (omega arith)
 
 pub returns : goal.returns
 returns c =
     let a = c.args in
-    let e : c.map.result ≡ a.weights.now = mapped_as _ _ 0 0 _ _ _ (λ i y p q h k. search rules) (omega arith) c.map.ensures.items in
-    let s = c.split.ensures.shares_after ∙ ap (split_of a.sum) e in
+    let s = c.split.ensures.shares_after ∙ ap (split_of a.sum) c.wide.ensures.same in
     record { shared = s; within = λ k. rw s (split-le a.sum a.weights.now k) }

@@ -1,4 +1,5 @@
 -- `requirements::SharesSheet::requirements` meets its contract.
+use Prim.Native.Nat.{ℕ}
 use mathlib.Core.Path.{ap, ◌∙◌}
 use Rattle.sheets.specs.declared.columns.Columns.{Columns}
 use Rattle.requirements.specs.Requirements.{average_volumes, average_margins, stress_losses}
@@ -8,11 +9,12 @@ use Rattle.requirements.proofs.Sharing.{requirements_joined, part_of_columns}
 use Rattle.requirements.proofs.SharesSheet.requirements.Goals as goal
 
 pub returns : goal.returns
-returns c quantum e =
+returns c =
     let columns = ap (λ (s : Inside). s.columns) c.self-inside.view_is ∙ c.self.view_is in
+    let parts = c.parts_of-parts.ensures in
     c.joined.ensures
-    ∙ requirements_joined quantum c.args.self.now c.self-inside.inside.0.0.present c.part-margin.result c.part-stress.result c.part-volume.result
+    ∙ requirements_joined c.args.quantum c.args.self.now c.self-inside.inside.0.0.present c.part-2.result c.part-3.result c.part.result
     (ap (λ (s : Columns). s.present) columns)
-    (c.part-margin.ensures.shared ∙ part_of_columns (ap (λ (p : ByColumn). p.margin) e) (ap average_margins columns))
-    (c.part-stress.ensures.shared ∙ part_of_columns (ap (λ (p : ByColumn). p.stress) e) (ap stress_losses columns))
-    (c.part-volume.ensures.shared ∙ part_of_columns (ap (λ (p : ByColumn). p.volume) e) (ap average_volumes columns))
+    (c.part-2.ensures.shared ∙ part_of_columns (ap (λ (p : ByColumn ℕ). p.margin) parts) (ap average_margins columns))
+    (c.part-3.ensures.shared ∙ part_of_columns (ap (λ (p : ByColumn ℕ). p.stress) parts) (ap stress_losses columns))
+    (c.part.ensures.shared ∙ part_of_columns (ap (λ (p : ByColumn ℕ). p.volume) parts) (ap average_volumes columns))

@@ -15,7 +15,7 @@ fn digit(byte: u8) -> Option<u8>
     }
 }
 
-/// The word as a number, where it is digits and its value fits.
+/// The word as a number, where it is digits and its value fits. (std's `parse` takes a plus sign too, which is no digit.)
 #[tactic(auto, using(crate::proofs::Reading::reading))]
 pub fn read_number(word: &[u8]) -> Option<u64>
     ensures { result ≡ read_of word.now }

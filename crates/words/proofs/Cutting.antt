@@ -1,17 +1,17 @@
 -- Laws of the words of a line: its first word, and those behind it.
 use Rattle.std.proofs.Common.{ℕ, suc, ◌+◌, ◌≤◌, ◌<◌, ◌≡◌, ◌≢◌, refl, sym, ap, ◌∙◌, arith}
-use Rattle.std.proofs.Common.{Bool, true, false, not, ◌||◌, cond, List, [], ◌∷◌, length, take, drop, ◌==◌}
-use lib.Seq.{length-take-le}
+use Rattle.std.proofs.Common.{Bool, true, false, cond, List, [], ◌∷◌, length, take, drop, ◌==◌}
 use Rattle.std.specs.List.{prefix_len, onto_first}
+use Rattle.std.proofs.lemmas.List.Folds.{length-prefix_len}
+use Rattle.std.proofs.lemmas.List.Sums.{prefix_len-le-length}
 use borrow.Author.Tests.{eqb-true}
 use Rattle.lists.specs.Checks.{check}
 use Rattle.lists.proofs.Cases.{never}
 use Rattle.lists.proofs.Checks.{check_by}
 use Rattle.words.specs.Words.{is_space, in_word, goes_on, words_of}
 
-pub prefix_within : (p : ℕ → Bool) (s : List ℕ) → prefix_len p s ≤ length s
-prefix_within p [] = omega arith
-prefix_within p (b ∷ s) = grind (arith, prefix_within p s)
+-- an attribute cannot name it by itself, for its dashes
+pub ruleset prefix_within = (prefix_len-le-length)
 
 drop_one : {X : Type 0} (n : ℕ) (x : X) (s : List X) → drop (1 + n) (x ∷ s) ≡ drop n s
 drop_one n x s = let e : 1 + n ≡ suc n = omega arith in rw e refl
@@ -42,13 +42,9 @@ none_in_front (b ∷ s) = go (b == 32) refl (none_in_front s)
     go true e ih = rw drop_one ih
     go false e ih = e
 
-neither : (x y : Bool) → not (x || y) ≡ true → x ≡ false
-neither true y h = sym h
-neither false y h = refl
-
 goes : (s : List ℕ) → goes_on s ≡ true → in_front s ≡ false
 goes [] h = refl
-goes (b ∷ s) h = neither (b == 32) (b == 35) h
+goes (b ∷ s) h = grind arith
 
 starts : (s : List ℕ) → goes_on s ≡ true → 0 < prefix_len in_word s
 starts [] h = never h
@@ -83,7 +79,7 @@ module _ (line s word rest : List ℕ) (e : s ≡ drop (prefix_len is_space line
   same = words_behind line ∙ sym (ap words_of e)
 
   long : length word ≡ prefix_len in_word s
-  long = ap length f ∙ length-take-le (prefix_len in_word s) s (prefix_within in_word s)
+  long = ap length f ∙ length-prefix_len in_word s
 
   pub no_word : length word ≡ 0 → (words_of line ≡ []) × (words_of rest ≡ [])
   no_word h =

@@ -1,12 +1,13 @@
 -- The pools charged one after the other, the tie behind them, and one pool alone: what the proofs of `charge_pools` and `charge_by_pools` cite.
-use Prim.Native.Nat.{ℕ, zero, suc, ◌+◌, ◌-◌, ◌≤◌, ◌<◌}
+use Prim.Native.Nat.{ℕ, zero, suc, ◌+◌, ◌-◌, ◌*◌, ◌≤◌, ◌<◌}
 use mathlib.Core.Path.{◌≡◌, refl, ap, sym, ◌∙◌}
 use mathlib.Core.Bool.{Bool, true, false, cond}
 use mathlib.Core.List.{List, [], ◌∷◌, map}
 use native.Mathlib.Numerals.{add-one}
 use native.Mathlib.Omega.{arith}
-use lib.ListN.{length, get_or, replicate, length-map, get_or-map}
-use lib.Seq.{take_all}
+use lib.ListN.{length, get_or, take, drop, replicate, length-map, get_or-map}
+use lib.Seq.{take_all, drop-drop}
+use Rattle.std.specs.Simd.{first_chunks}
 use Rattle.lists.specs.Limits.{member_limit, rank_limit, amount_limit}
 use Rattle.lists.specs.Sums.{total, plus, minus, keep}
 use Rattle.lists.proofs.Places.{map_same}
@@ -14,6 +15,7 @@ use Rattle.lists.proofs.Sums.{total_step, total_zeros, single, length-keep, get_
 use Rattle.split.specs.Split.{share_of, split_of}
 use Rattle.split.proofs.Laws.{exceeds-none}
 use Rattle.ranks.specs.Ranks.{charges_of}
+use Rattle.ranks.specs.declared.Charged.{Charged}
 use Rattle.figures.specs.declared.Status.{Status}
 use Rattle.figures.specs.Figures.{live_in}
 use Rattle.figures.proofs.Figures.{length-live}
@@ -45,6 +47,18 @@ unfolding undivided
 undivided-le zero sums w = omega arith
 undivided-le (suc p) [] w = omega arith
 undivided-le (suc p) (s ∷ sums) w = omega (arith, undivided-le p sums (w - share_of w s (s + total sums)))
+
+-- the ranks of a pool are the 64 of its turn
+chunk_at : (n p : ℕ) (ranks : List ℕ) → p < n → get_or (first_chunks member_limit n ranks) p [] ≡ pool_ranks ranks p
+chunk_at zero p ranks h = absurd (omega arith)
+chunk_at (suc n) zero ranks h = refl
+chunk_at (suc n) (suc p) ranks h =
+    let along : member_limit + member_limit * p ≡ member_limit * suc p = omega arith in
+    chunk_at n p (drop member_limit ranks) (omega arith)
+    ∙ ap (take member_limit) (drop-drop (member_limit * p) member_limit ranks ∙ ap (λ (k : ℕ). drop k ranks) along)
+
+pub ranks_of-turn : (n p : ℕ) (ranks own : List ℕ) (chunks : List (List ℕ)) → chunks ≡ first_chunks member_limit n ranks → length chunks ≡ n → p < length chunks → own ≡ get_or chunks p [] → own ≡ pool_ranks ranks p
+ranks_of-turn n p ranks own chunks a l h e = e ∙ ap (λ (xs : List (List ℕ)). get_or xs p []) a ∙ chunk_at n p ranks (omega arith)
 
 -- pool by pool --------------------------------------------------------------------------
 
@@ -106,7 +120,6 @@ module _ (sums : List ℕ) (status : List Status) (contribution ranks : List ℕ
                 charges_fit p (omega arith) k,
               );
           total_is = i.total_is;
-          over_is = i.over_is;
         }
 
     turn_of : (w : ℕ) → share_of (undivided p sums w) (get_or sums p 0) d.rest ≡ portion_of sums p w
@@ -129,7 +142,6 @@ module _ (sums : List ℕ) (status : List Status) (contribution ranks : List ℕ
               ∙ ap (λ (xs : List ℕ). plus (charges_up_to sums weights ranks p) (charges_of (get_or sums p 0) xs (pool_ranks ranks p)))
               (keep-shares (undivided p sums) (portion_of sums p) (get_or sums p 0) d.rest turn_of (portion-none sums p) marks contribution);
           total_is = n.total_is;
-          over_is = n.over_is;
         }
 
   -- the tie ------------------------------------------------------------------------------
@@ -157,18 +169,16 @@ module _ (sums : List ℕ) (status : List Status) (contribution ranks : List ℕ
               };
           total_is = i.total_is;
           total_within = omega (arith, i.total_is, ap total i.charges_are, pooled-placed sums weights ranks);
-          over_is = i.over_is;
         }
 
     -- with the tie's charges, these are layer 4's
-    pub by-pools_so : (charges : List ℕ) (t : ℕ) (over : Bool) → Tied (rooms marks contribution d.charges) whole d charges t over
-        → Charges (charges_by_pools sums weights ranks) contribution charges t over
+    pub by-pools_so : (x : Charged) → Tied (rooms marks contribution d.charges) whole d x → Charges (charges_by_pools sums weights ranks) contribution x
     unfolding charges_by_pools tied still_standing unmet charges_together
-    by-pools_so charges t over q =
+    by-pools_so x q =
         let stands : rooms marks contribution d.charges ≡ still_standing sums weights ranks =
         keep-minus marks contribution d.charges ∙ ap (minus weights) i.charges_are in
         let n : d.total ≡ total charged = i.total_is ∙ ap total i.charges_are in
-        let e : charges ≡ charges_by_pools sums weights ranks =
+        let e : x.charges ≡ charges_by_pools sums weights ranks =
         q.charges_are
         ∙ ap (λ (xs : List ℕ). plus d.charges (split_of (gives (whole - d.total) (total xs)) xs)) stands
         ∙ ap (λ (m : ℕ). plus d.charges (split_of (gives (m - d.total) (total (still_standing sums weights ranks))) (still_standing sums weights ranks))) w
@@ -177,7 +187,7 @@ module _ (sums : List ℕ) (status : List Status) (contribution ranks : List ℕ
         record {
           charges_are = e;
           total_is = q.total_is;
-          over_is = q.over_is ∙ sym (exceeds-none charges contribution (λ k. omega (arith, ap (λ (xs : List ℕ). get_or xs k 0) e, by-pools-within sums weights ranks k, keep-le marks contribution k)));
+          over_is = q.over_is ∙ sym (exceeds-none x.charges contribution (λ k. omega (arith, ap (λ (xs : List ℕ). get_or xs k 0) e, by-pools-within sums weights ranks k, keep-le marks contribution k)));
         }
 
 -- the live members' contributions alone are divided ---------------------------------------
@@ -196,25 +206,25 @@ module _ (sums : List ℕ) (status : List Status) (contribution ranks standing :
       }
 
   -- they are the weights, and a charge within one is within the contribution
-  pub standing-charges : (charges : List ℕ) (t : ℕ) (over : Bool) → Charges (charges_by_pools sums (keep (live_in status) standing) ranks) standing charges t over
-      → Charges (charges_by_pools sums (keep (live_in status) contribution) ranks) contribution charges t over
-  standing-charges charges t over q =
+  pub standing-charges : (x : Charged) → Charges (charges_by_pools sums (keep (live_in status) standing) ranks) standing x
+      → Charges (charges_by_pools sums (keep (live_in status) contribution) ranks) contribution x
+  standing-charges x q =
       let same : keep (live_in status) standing ≡ keep (live_in status) contribution = ap (keep (live_in status)) e ∙ keep-keep (live_in status) contribution in
-      let is : charges ≡ charges_by_pools sums (keep (live_in status) contribution) ranks = q.charges_are ∙ ap (λ (ws : List ℕ). charges_by_pools sums ws ranks) same in
-      let within : (k : ℕ) → get_or charges k 0 ≤ get_or (keep (live_in status) contribution) k 0 = λ k.
+      let is : x.charges ≡ charges_by_pools sums (keep (live_in status) contribution) ranks = q.charges_are ∙ ap (λ (ws : List ℕ). charges_by_pools sums ws ranks) same in
+      let within : (k : ℕ) → get_or x.charges k 0 ≤ get_or (keep (live_in status) contribution) k 0 = λ k.
       omega (arith, ap (λ (xs : List ℕ). get_or xs k 0) is, by-pools-within sums (keep (live_in status) contribution) ranks k) in
       record {
         charges_are = is;
         total_is = q.total_is;
         over_is =
             q.over_is
-            ∙ exceeds-none charges standing (λ k. omega (arith, within k, ap (λ (xs : List ℕ). get_or xs k 0) e))
-            ∙ sym (exceeds-none charges contribution (λ k. omega (arith, within k, keep-le (live_in status) contribution k)));
+            ∙ exceeds-none x.charges standing (λ k. omega (arith, within k, ap (λ (xs : List ℕ). get_or xs k 0) e))
+            ∙ sym (exceeds-none x.charges contribution (λ k. omega (arith, within k, keep-le (live_in status) contribution k)));
       }
 
 -- before the first pool
 pub divided_start : (sums : List ℕ) (status : List Status) (contribution ranks : List ℕ) (whole : ℕ) → length contribution ≡ member_limit → length status ≡ member_limit → whole ≡ total sums
-    → Divided zero sums status contribution ranks (record { left = contribution; rest = whole; charges = replicate member_limit 0; total = 0; over = false })
+    → Divided zero sums status contribution ranks (record { left = contribution; rest = whole; charges = replicate member_limit 0; total = 0 })
 unfolding charges_up_to undivided
 divided_start sums status contribution ranks whole l s w =
     record {
@@ -222,7 +232,6 @@ divided_start sums status contribution ranks whole l s w =
       rest_is = w;
       charges_are = ap (λ (n : ℕ). replicate n 0) (sym (length-keep (live_in status) contribution (length-live status ∙ s ∙ sym l) ∙ l));
       total_is = sym (total_zeros member_limit);
-      over_is = refl;
     }
 
 -- one pool alone --------------------------------------------------------------------------

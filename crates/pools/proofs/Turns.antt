@@ -1,7 +1,7 @@
 -- The laws of a pool's turn and of the last tie, which the proofs of the parts of `charge_by_pools` cite.
 use Prim.Native.Nat.{ℕ, ◌+◌, ◌-◌, ◌*◌, ◌≤◌, ◌<◌}
 use mathlib.Core.Path.{◌≡◌, refl, ap, sym, ◌∙◌}
-use mathlib.Core.Bool.{Bool, ◌||◌}
+use mathlib.Core.Bool.{Bool, false}
 use mathlib.Core.List.{List, [], ◌∷◌}
 use native.Mathlib.Omega.{arith}
 use lib.ListN.{length, get_or, length-map, get_or-map}
@@ -9,8 +9,8 @@ use Rattle.lists.specs.Limits.{member_limit, amount_limit}
 use Rattle.lists.specs.Sums.{total, plus, minus, keep}
 use Rattle.lists.proofs.Places.{map_same}
 use Rattle.lists.proofs.Sums.{total-plus, none-plus, get_or-minus, minus-none, keep-le, length-keep, total_bound}
-use Rattle.split.specs.Split.{share_of, exceeds}
-use Rattle.split.proofs.Laws.{share-last, share-le_left, share-none, split-within, exceeds-none}
+use Rattle.split.specs.Split.{share_of}
+use Rattle.split.proofs.Laws.{share-last, share-le_left, share-none, split-within}
 use Rattle.ranks.specs.Ranks.{charges_of}
 use Rattle.ranks.proofs.Laws.{length-charges, charge-within, charges-within}
 use Rattle.figures.specs.declared.Status.{Status}
@@ -98,17 +98,16 @@ module _ (sum : ℕ) (status : List Status) (ranks : List ℕ) (d : Division) (l
       omega (arith, ap total b, charges-within sum (keep (live_in status) found) ranks)
 
   -- a pool with a sum
-  pub pool_charged : (found wide cs left charges : List ℕ) (t : ℕ) (over : Bool) → found ≡ portions → wide ≡ found → cs ≡ charges_of sum (keep (live_in status) found) ranks → t ≡ total cs
-      → over ≡ exceeds cs found → left ≡ minus d.left wide → charges ≡ plus d.charges cs
-      → PoolCharged sum (live_in status) ranks d (record { left = left; rest = d.rest - sum; charges = charges; total = d.total + t; over = d.over || over })
-  pool_charged found wide cs left charges t over a b c w o l g =
+  pub pool_charged : (found wide cs left charges : List ℕ) (t : ℕ) → found ≡ portions → wide ≡ found → cs ≡ charges_of sum (keep (live_in status) found) ranks → t ≡ total cs
+      → left ≡ minus d.left wide → charges ≡ plus d.charges cs
+      → PoolCharged sum (live_in status) ranks d (record { left = left; rest = d.rest - sum; charges = charges; total = d.total + t })
+  pool_charged found wide cs left charges t a b c w l g =
       let e : cs ≡ charged = c ∙ ap (λ (xs : List ℕ). charges_of sum (keep (live_in status) xs) ranks) a in
       record {
         left_is = l ∙ ap (minus d.left) (b ∙ a);
         rest_is = refl;
         charges_are = g ∙ ap (plus d.charges) e;
         total_is = omega (arith, ap total g, total-plus d.charges cs, p.total_is);
-        over_is = rw p.over_is (o ∙ ap (exceeds cs) a ∙ ap (λ (xs : List ℕ). exceeds xs portions) e ∙ exceeds-none charged portions charged-within);
       }
 
   -- a pool without one
@@ -120,7 +119,6 @@ module _ (sum : ℕ) (status : List Status) (ranks : List ℕ) (d : Division) (l
         charges_are =
             sym (none-plus d.charges charged (omega (arith, length_charged, p.charges_length)) (omega (arith, charges-within sum (keep (live_in status) portions) ranks)));
         total_is = p.total_is;
-        over_is = p.over_is;
       }
 
 -- the last tie ----------------------------------------------------------------------------
@@ -147,10 +145,10 @@ module _ (whole : ℕ) (status : List Status) (contribution : List ℕ) (d : Div
         p.roomy.most_fits k,
       )
 
-  pub tied_so : (charges wide : List ℕ) → charges ≡ plus d.charges cs → wide ≡ charges → Tied standing whole d wide (d.total + t) (d.over || over)
+  pub tied_so : (charges wide : List ℕ) → charges ≡ plus d.charges cs → wide ≡ charges → Tied standing whole d (record { charges = wide; total = d.total + t; over = false })
   tied_so charges wide a b =
       record {
         charges_are = b ∙ a ∙ ap (plus d.charges) s.shares_are;
         total_is = omega (arith, ap total b, ap total a, total-plus d.charges cs, p.total_is, whole_shared standing (whole - d.total) cs t rest over s);
-        over_is = rw p.over_is (s.over_is ∙ exceeds-none cs standing tie-within);
+        over_is = refl;
       }

@@ -4,6 +4,7 @@ use Rattle.lists.specs.Limits.{member_limit, pool_limit, amount_limit, allocatio
 use Rattle.lists.specs.Sums.{total, plus, minus, keep}
 use Rattle.split.specs.Split.{share_of, split_of, exceeds}
 use Rattle.ranks.specs.Ranks.{charges_of}
+use Rattle.ranks.specs.declared.Charged.{Charged}
 use Rattle.figures.specs.declared.Status.{Status}
 use Rattle.figures.specs.Figures.{live_in}
 use Rattle.admission.specs.Admission.{misranked, pools_misranked}
@@ -12,11 +13,11 @@ use Rattle.rooms.specs.Parts.{Roomy}
 use Rattle.pools.specs.Pools.{charges_up_to}
 use Rattle.pools.specs.declared.Division.{Division}
 
--- the charges that were lent are these, with their total, and whether one passes its contribution
-pub record Charges (these contribution charges : List ℕ) (charged : ℕ) (over : Bool) : Type 0 where
-  pub charges_are : charges ≡ these
-  pub total_is : charged ≡ total charges
-  pub over_is : over ≡ exceeds charges contribution
+-- the charges are these, with their total, and whether one passes its contribution
+pub record Charges (these contribution : List ℕ) (charged : Charged) : Type 0 where
+  pub charges_are : charged.charges ≡ these
+  pub total_is : charged.total ≡ total charged.charges
+  pub over_is : charged.over ≡ exceeds charged.charges contribution
 
 -- what one pool is charged with
 pub record Chargeable (status : List Status) (contribution ranks : List ℕ) : Type 0 where
@@ -45,7 +46,6 @@ pub record Divided (p : ℕ) (sums : List ℕ) (status : List Status) (contribut
   pub rest_is : d.rest ≡ total (drop p sums)
   pub charges_are : d.charges ≡ charges_up_to sums (keep (live_in status) contribution) ranks p
   pub total_is : d.total ≡ total d.charges
-  pub over_is : d.over ≡ false
 
 -- what the next pool is charged with
 pub record Divisible (sum : ℕ) (status : List Status) (ranks : List ℕ) (d : Division) : Type 0 where
@@ -56,7 +56,6 @@ pub record Divisible (sum : ℕ) (status : List Status) (ranks : List ℕ) (d : 
   pub charges_length : length d.charges ≡ member_limit
   pub charges_fit : (k : ℕ) → get_or d.charges k 0 + get_or d.left k 0 ≤ amount_limit
   pub total_is : d.total ≡ total d.charges
-  pub over_is : d.over ≡ false
 
 -- a turn of the split of every contribution: what the next pool, with `sum`, has of what is left of each
 abbrev pub shares : ℕ → ℕ → List ℕ → List ℕ
@@ -68,7 +67,6 @@ pub record PoolCharged (sum : ℕ) (others : List Bool) (ranks : List ℕ) (d ne
   pub rest_is : next.rest ≡ d.rest - sum
   pub charges_are : next.charges ≡ plus d.charges (charges_of sum (keep others (shares sum d.rest d.left)) ranks)
   pub total_is : next.total ≡ total next.charges
-  pub over_is : next.over ≡ false
 
 -- the pools are charged, and what is left falls on the rooms of the members that are marked
 pub record Tiable (whole : ℕ) (contribution : List ℕ) (d : Division) : Type 0 where
@@ -77,9 +75,8 @@ pub record Tiable (whole : ℕ) (contribution : List ℕ) (d : Division) : Type 
   pub roomy : Roomy contribution d.charges
   pub total_is : d.total ≡ total d.charges
   pub total_within : d.total ≤ whole
-  pub over_is : d.over ≡ false
 
-pub record Tied (standing : List ℕ) (whole : ℕ) (d : Division) (charges : List ℕ) (charged : ℕ) (over : Bool) : Type 0 where
-  pub charges_are : charges ≡ plus d.charges (split_of (gives (whole - d.total) (total standing)) standing)
-  pub total_is : charged ≡ total charges
-  pub over_is : over ≡ false
+pub record Tied (standing : List ℕ) (whole : ℕ) (d : Division) (charged : Charged) : Type 0 where
+  pub charges_are : charged.charges ≡ plus d.charges (split_of (gives (whole - d.total) (total standing)) standing)
+  pub total_is : charged.total ≡ total charged.charges
+  pub over_is : charged.over ≡ false

@@ -12,33 +12,27 @@ ghost use Rattle.rooms.specs.Rooms.{rooms};
 ghost use Rattle.pools.specs.Pools.{losses_after, joined_pool, sums_of, charges_by_pools};
 ghost use Rattle.pools.specs.Parts.{Charges, Chargeable, Poolable, Divided, Divisible, PoolCharged, Tiable, Tied, shares};
 
-use admission::pool_ranks;
 use figures::{Status, add_to, of_live, take_from, total};
 use ranks::{Charged, charge_by_rank};
 use rooms::share_rooms;
 use split::share;
-use std::array;
 
-// What is left of the contributions and of the pools' sums once some pools have their portions, what these charge, its total, and whether a share
-// passes what it is drawn from.
+// What is left of the contributions and of the pools' sums once some pools have their portions, what these charge, and its total.
 #[derive(Drop)]
 struct Division {
     left: [u32; 64],
     rest: u64,
     charges: [u32; 64],
     total: u64,
-    // A second answer: the charges are right either way.
-    over: bool,
 }
 
 // What is left of the losses, where layers 1 to 3 have `given` left for them.
 fn meet(mut given: u64, losses: &mut [u64])
     ensures { losses.new ≡ losses_after given losses.old }
 {
-    // By index: a proof knows nothing of what is written through `iter_mut`.
-    for i in 0..losses.len() {
-        let met = given.min(losses[i]);
-        losses[i] -= met;
+    for loss in losses.iter_mut() {
+        let met = given.min(*loss);
+        *loss -= met;
         given -= met;
     }
 }
@@ -62,22 +56,16 @@ pub fn sums_of(given: u64, fallen: u64, losses: &mut [u64])
     losses[p] += fallen - met;
 }
 
-// One pool: a sum charged to the live members by its ranks, over their contributions or their portions of them. The charges are lent, and so far all 0.
-fn charge_others(
-    status: &[Status; 64],
-    contribution: &[u32; 64],
-    sum: u64,
-    ranks: &[u8],
-    charges: &mut [u64; 64],
-) -> Charged
+// One pool: a sum charged to the live members by its ranks, over their contributions or their portions of them. These are no one struct with the status,
+// which `Division::charge` pairs with its own portions.
+fn charge_others(status: &[Status; 64], contribution: &[u32; 64], sum: u64, ranks: &[u8]) -> Charged
     requires moderate { sum ≤ allocation_limit }
     requires chargeable { Chargeable status.now contribution.now ranks.now }
-    requires uncharged { total charges.old ≡ 0 }
-    ensures { Charges (charges_of sum (keep (live_in status.now) contribution.now) ranks.now) contribution.now charges.new result.total result.over }
+    ensures { Charges (charges_of sum (keep (live_in status.now) contribution.now) ranks.now) contribution.now result }
 {
     // "Only ranks of live members other than the defaulter are read": the others' count as 0, which is no rank.
     let read = of_live(status, ranks, 0);
-    charge_by_rank(sum, contribution, &read, charges)
+    charge_by_rank(sum, contribution, &read)
 }
 
 // A pool's turn of the split of one contribution. Where nothing is left of it, nothing is divided.
@@ -99,13 +87,7 @@ fn portions_of(left: [u32; 64], sum: u64, rest: u64) -> [u32; 64]
     if sum == rest {
         return left;
     }
-    array::from_fn(|i| portion(left[i], sum, rest))
-}
-
-fn widened(amounts: &[u32; 64]) -> [u64; 64]
-    ensures { result ≡ amounts.now }
-{
-    array::from_fn(|i| u64::from(amounts[i]))
+    left.map(|weight| portion(weight, sum, rest))
 }
 
 impl Division {
@@ -118,32 +100,25 @@ impl Division {
             return;
         }
         let portions = portions_of(self.left, sum, self.rest);
-        let mut charges = [0; 64];
-        let charged = charge_others(status, &portions, sum, ranks, &mut charges);
-        take_from(&mut self.left, &widened(&portions));
-        add_to(&mut self.charges, &charges, charged.total);
+        let charged = charge_others(status, &portions, sum, ranks);
+        take_from(&mut self.left, &portions.map(u64::from));
+        add_to(&mut self.charges, &charged.charges, charged.total);
         self.rest -= sum;
         self.total += charged.total;
-        self.over |= charged.over;
     }
 
     // "What the pools cannot meet falls in one sum, after the last pool, on all contributions still standing as one tie."
-    fn tie(
-        mut self,
-        whole: u64,
-        status: &[Status; 64],
-        contribution: &[u32; 64],
-        charges: &mut [u64; 64],
-    ) -> Charged
+    fn tie(mut self, whole: u64, status: &[Status; 64], contribution: &[u32; 64]) -> Charged
         requires { Tiable whole contribution.now self }
-        ensures { Tied (rooms (live_in status.now) contribution.now self.charges) whole self charges.new result.total result.over }
+        ensures { Tied (rooms (live_in status.now) contribution.now self.charges) whole self result }
     {
         let tie = share_rooms(status, contribution, &self.charges, whole - self.total);
         add_to(&mut self.charges, &tie.shares, tie.total);
-        *charges = widened(&self.charges);
         Charged {
+            charges: self.charges.map(u64::from),
             total: self.total + tie.total,
-            over: self.over | tie.over,
+            // The pools' charges and the tie's are within what they are drawn from: their contracts prove it.
+            over: false,
         }
     }
 }
@@ -165,33 +140,31 @@ fn charge_pools(
         rest: whole,
         charges: [0; 64],
         total: 0,
-        over: false,
     };
-    for (p, &sum) in sums.iter().enumerate() {
-        division.charge(sum, status, pool_ranks(ranks, p));
+    let (of_pools, _) = ranks.as_chunks::<64>();
+    for (&sum, own) in sums.iter().zip(of_pools) {
+        division.charge(sum, status, own);
     }
     division
 }
 
 // Layer 4: the sums of the pools charged to the live members. With one pool the portions are the contributions themselves, and nothing is left for a
-// tie. The charges are lent, and so far all 0.
+// tie.
 pub fn charge_by_pools(
     sums: &[u64],
     status: &[Status; 64],
     contribution: &[u32; 64],
     ranks: &[u8],
-    charges: &mut [u64; 64],
 ) -> Charged
     requires poolable { Poolable sums.now status.now contribution.now ranks.now }
-    requires uncharged { total charges.old ≡ 0 }
-    ensures { Charges (charges_by_pools sums.now (keep (live_in status.now) contribution.now) ranks.now) contribution.now charges.new result.total result.over }
+    ensures { Charges (charges_by_pools sums.now (keep (live_in status.now) contribution.now) ranks.now) contribution.now result }
 {
     let whole = total(sums);
     if sums.len() == 1 {
-        return charge_others(status, contribution, whole, ranks, charges);
+        return charge_others(status, contribution, whole, ranks);
     }
     // "Each other live member's contribution is divided": nobody else's is, and it counts as 0.
     let standing = of_live(status, contribution, 0);
     let division = charge_pools(sums, whole, status, standing, ranks);
-    division.tie(whole, status, &standing, charges)
+    division.tie(whole, status, &standing)
 }

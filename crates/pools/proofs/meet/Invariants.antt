@@ -2,5 +2,5 @@
 use Rattle.pools.proofs.Sums.{Met}
 use Rattle.pools.proofs.meet.Given as goal
 
-abbrev pub invariant-loop-i : goal.invariant-loop-i
-invariant-loop-i l = Met l.fn.given l.initial.losses l.given l.losses l.i
+abbrev pub invariant-loop-loss : goal.invariant-loop-loss
+invariant-loop-loss l = Met l.fn.given l.initial.losses l.given l.losses l.loss-index

@@ -17,7 +17,7 @@ use Rattle.lists.proofs.Checks.{check_past, neither}
 use Rattle.refusal.specs.declared.Refusal.{Refusal}
 use Rattle.figures.specs.declared.Status.{Status}
 use Rattle.figures.specs.Figures.{status_at, others}
-use Rattle.admission.specs.Admission.{misranked, unready, admission, loss_of, losses_of, miscounted, excessive_losses, pools_unready, pools_misranked, losses_admission, pools_admission, amount_admission}
+use Rattle.admission.specs.Admission.{misranked, unready, admission, loss_of, losses_of, miscounted, excessive_losses, pools_unready, pools_misranked, losses_admission, pools_admission}
 use Rattle.admission.specs.declared.Pools.{Pools}
 use Rattle.admission.proofs.Passed.{check_or, standing_or, passes}
 
@@ -45,19 +45,6 @@ module _ (status : List Status) (member loss : ℕ) (ranks : List ℕ) (slip : �
         slip-length = ltb-false _ _ (neither (not (eqb (length ranks) member_limit)) _ d.0).1;
         well_ranked = f.0;
       }
-
-  -- what 11 to 15 answer, and what is behind them
-  pub admission_or : (rest : Option Refusal) → admission status member loss ranks slip rest ≡ option_or (admission status member loss ranks slip None) rest
-  admission_or rest =
-      standing_or rest status member _ _
-      (check_or rest _ _ _ _
-      (check_or rest _ _ _ _
-      (check_or rest _ _ _ _ refl)))
-
--- a payment's and a replenishment's
-pub amount_admission_or : (status : List Status) (member amount most : ℕ) (refusal : Refusal) (rest : Option Refusal)
-    → amount_admission status member amount most refusal rest ≡ option_or (amount_admission status member amount most refusal None) rest
-amount_admission_or status member amount most refusal rest = standing_or rest status member _ _ (check_or rest _ _ _ _ refl)
 
 -- with pools ------------------------------------------------------------------------
 

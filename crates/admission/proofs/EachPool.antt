@@ -1,20 +1,22 @@
 -- Laws of what is tried on each pool.
-use Prim.Native.Nat.{ℕ, zero, suc, ◌+◌, ◌*◌, ◌≤◌, ◌<◌, zero-le}
+use Prim.Native.Nat.{ℕ, zero, suc, ◌+◌, ◌*◌, ◌/◌, ◌≤◌, ◌<◌, zero-le}
 use mathlib.Core.Path.{◌≡◌, refl, ap, sym, ◌∙◌}
-use mathlib.Core.Bool.{Bool, false, true, ◌||◌}
+use mathlib.Core.Bool.{Bool, false, ◌||◌, or_assoc}
 use mathlib.Core.List.{List, [], ◌∷◌}
 use mathlib.Core.Logic.{⊎_elim}
 use native.Mathlib.Nat.{eq-or-lt_of_le}
-use native.Mathlib.Numerals.{add-one}
 use native.Mathlib.Omega.{arith}
 use borrow.Author.Tests.{ltb-false}
 use lib.Dec.{ltb}
 use lib.ListN.{length, get_or, take, drop, length-drop}
 use lib.Seq.{length-take-le, get_or-take}
 use Rattle.std.specs.List.{list_any}
+use Rattle.std.specs.Simd.{first_chunks}
+use Rattle.std.proofs.lemmas.List.{drop-drop}
 use Rattle.std.proofs.lemmas.List.FromFn.{length-map-range_with_len, fill_by_all}
 use Rattle.lists.specs.Limits.{member_limit, sum_limit}
 use Rattle.lists.specs.Sums.{total}
+use Rattle.lists.proofs.Cases.{or-false}
 use Rattle.lists.proofs.Checks.{neither}
 use Rattle.lists.proofs.Tests.{positive-sum}
 use Rattle.lists.proofs.Sums.{total_bound}
@@ -64,15 +66,24 @@ pool_well-ranked read ranks (suc n) e p h =
     (λ l. pool_well-ranked read ranks n o.0 p l)
     (eq-or-lt_of_le (omega arith))
 
--- one pool a turn: no rank of it is refused either, or one is
-pub misranked_more : (read : List Bool) (ranks : List ℕ) (p : ℕ) → pools_misranked read ranks p ≡ false → misranked read (pool_ranks ranks p) ≡ false
-    → pools_misranked read ranks (p + 1) ≡ false
-unfolding pools_misranked
-misranked_more read ranks p e q = rw (add-one, e, q)
+-- the pools as arrays of 64 ranks: a test of the first pools, and of one pool more
+any_more : (test : List ℕ → Bool) (n : ℕ) (ranks : List ℕ)
+    → list_any test (first_chunks member_limit (suc n) ranks) ≡ (list_any test (first_chunks member_limit n ranks) || test (pool_ranks ranks n))
+any_more test zero ranks = or-false (test (take member_limit ranks))
+any_more test (suc n) ranks =
+    let along : member_limit + member_limit * n ≡ member_limit * suc n = omega arith in
+    ap (λ (b : Bool). test (take member_limit ranks) || b) (any_more test n (drop member_limit ranks))
+    ∙ sym (or_assoc (test (take member_limit ranks)) _ _)
+    ∙ ap (λ (xs : List ℕ). (test (take member_limit ranks) || list_any test (first_chunks member_limit n (drop member_limit ranks))) || test (take member_limit xs))
+    (drop-drop (member_limit * n) member_limit ranks ∙ ap (λ (k : ℕ). drop k ranks) along)
 
-pub misranked_in : (read : List Bool) (ranks : List ℕ) (n : ℕ) (p : ℕ) → p < n → misranked read (pool_ranks ranks p) ≡ true → pools_misranked read ranks n ≡ true
-misranked_in read ranks n p h t = go (pools_misranked read ranks n) refl
-  where
-    go : (b : Bool) → pools_misranked read ranks n ≡ b → b ≡ true
-    go true e = refl
-    go false e = sym (pool_well-ranked read ranks n e p h) ∙ t
+pub any-pools : (read : List Bool) (ranks : List ℕ) (n : ℕ) → list_any (misranked read) (first_chunks member_limit n ranks) ≡ pools_misranked read ranks n
+unfolding pools_misranked
+any-pools read ranks zero = refl
+any-pools read ranks (suc n) = any_more (misranked read) n ranks ∙ ap (λ (b : Bool). b || misranked read (pool_ranks ranks n)) (any-pools read ranks n)
+
+-- as many as there are ranks for
+pub pools_counted : (read : List Bool) (ranks : List ℕ) (n : ℕ) → length ranks ≡ member_limit * n → pools_misranked read ranks (length ranks / member_limit) ≡ pools_misranked read ranks n
+pools_counted read ranks n e =
+    let m : length ranks / member_limit ≡ n = omega arith in
+    ap (pools_misranked read ranks) m

@@ -1,5 +1,6 @@
 -- Document 01, "When the console says no": refusals 11 to 18, and 21 and 22 of document 02, request 3, on the figures that they read.
-use Rattle.std.specs.Prelude.{ℕ, zero, suc, ◌+◌, ◌*◌, ◌≡◌, refl, Bool, true, false, ◌||◌, ◌&&◌, not, List, [], ◌∷◌, map, Option, Some, eqb, ltb, length, get_or, take, drop, replicate}
+use Rattle.std.specs.Prelude.{ℕ, zero, suc, ◌+◌, ◌*◌, ◌≡◌, refl, Bool, true, false, ◌||◌, ◌&&◌, not, eqb, ltb}
+use Rattle.std.specs.Prelude.{List, [], ◌∷◌, map, length, get_or, take, drop, replicate, Option, Some}
 use Rattle.std.specs.List.{list_any, range_with_len}
 use Rattle.lists.specs.Checks.{check}
 use Rattle.lists.specs.Limits.{member_limit, rank_limit, pool_limit, sum_limit}

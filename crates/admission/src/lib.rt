@@ -2,19 +2,22 @@
 // the console says no".
 #![tactic(auto)]
 
-ghost use Rattle.std.specs.Prelude.{◌≡◌, false, ◌||◌, ◌&&◌, ◌+◌, ◌*◌, ◌≤◌, ◌<◌, eqb, ltb, length, take, None};
+ghost use Rattle.std.specs.Prelude.{◌≡◌, false, ◌||◌, ◌&&◌, ◌+◌, ◌*◌, ◌/◌, ◌≤◌, ◌<◌, eqb, ltb, length, take, None};
 ghost use Rattle.lists.specs.Checks.{check};
 ghost use Rattle.lists.specs.Limits.{member_limit, rank_limit, pool_limit, sum_limit};
 ghost use Rattle.lists.specs.Sums.{total};
 ghost use Rattle.refusal.specs.Refusal.{answered};
 ghost use Rattle.figures.specs.Figures.{is_live, live_in};
-ghost use Rattle.admission.specs.Admission.{standing, misranked, losses_of, pool_ranks, miscounted, excessive_losses, pools_unready, pools_misranked, losses_admission, pools_admission, unfit, amount_admission, owing};
+ghost use Rattle.admission.specs.Admission.{standing, misranked, losses_of, pool_ranks, miscounted, excessive_losses, pools_unready, pools_misranked};
+ghost use Rattle.admission.specs.Admission.{losses_admission, pools_admission, unfit, amount_admission, owing};
 
 use figures::{Status, defaulted, status_at, total};
 use lists::{MEMBER_LIMIT, POOL_LIMIT, RANK_LIMIT, SUM_LIMIT};
 use refusal::Refusal;
 
 /// What a default names: how many pools, and the loss of each. Of the four losses as many are read as it counts.
+// A count above 4 must be told, by 21, and there is no heap: so a count stands beside the four losses, and what reads them asks that it is 4 at most.
+// `get(..count)` would answer an Option, and what tries 13, 22 and 14 would ask of its losses what is now asked of the count.
 #[derive(Clone, Copy, Debug, PartialEq, Eq)]
 pub struct Pools {
     pub count: usize,
@@ -98,8 +101,7 @@ fn unranked(status: Status, rank: u8) -> bool
 }
 
 // 15 in one pool: only the ranks of the live members are read.
-fn misranked(status: &[Status; 64], ranks: &[u8]) -> bool
-    requires { length ranks.now ≡ member_limit }
+fn misranked(status: &[Status; 64], ranks: &[u8; 64]) -> bool
     ensures { result ≡ misranked (live_in status.now) ranks.now }
 {
     // By index, and to the end: many ranks are tested at once, which a zip or an `any` prevents.
@@ -121,20 +123,16 @@ pub fn pool_ranks(ranks: &[u8], p: usize) -> &[u8]
 }
 
 // 15, tried on each pool.
-fn pools_misranked(status: &[Status; 64], ranks: &[u8], count: usize) -> bool
-    requires { (length ranks.now ≡ member_limit * count) × (count ≤ pool_limit) }
-    ensures { result ≡ pools_misranked (live_in status.now) ranks.now count }
+fn pools_misranked(status: &[Status; 64], ranks: &[u8]) -> bool
+    ensures { result ≡ pools_misranked (live_in status.now) ranks.now (length ranks.now / member_limit) }
 {
-    for p in 0..count {
-        if misranked(status, pool_ranks(ranks, p)) {
-            return true;
-        }
-    }
-    false
+    let (pools, _) = ranks.as_chunks::<64>();
+    pools.iter().any(|pool| misranked(status, pool))
 }
 
-// 11, 12, 21, 13, 22, 14 and 15 of a default: the first that holds.
-#[tactic(auto, unfolding(lists::specs::Checks::check))]
+// 11, 12, 21, 13, 22, 14 and 15 of a default: the first that holds. Member, pools, ranks and slip are no struct: ranks and slip are slices that are lent
+// beside a call (document 01, "Form by location").
+#[tactic(auto, using(crate::proofs::EachPool::pools_counted), unfolding(lists::specs::Checks::check))]
 pub fn default_admission(
     status: [Status; 64],
     member: u64,
@@ -152,7 +150,7 @@ pub fn default_admission(
     if unready(pools.count, ranks.len(), slip) {
         return Err(Refusal::Unready);
     }
-    if pools_misranked(&defaulted(status, member), ranks, pools.count) {
+    if pools_misranked(&defaulted(status, member), ranks) {
         return Err(Refusal::Misranked);
     }
     Ok(())

@@ -1,16 +1,20 @@
-use mathlib.Core.Path.{refl, sym}
-use native.Mathlib.Omega.{arith}
+use Prim.Native.Nat.{◌/◌}
+use mathlib.Core.Path.{◌∙◌}
+use borrow.Author.Tests.{tests}
+use lib.ListN.{length}
+use Rattle.std.proofs.Common.{rules}
+use Rattle.std.specs.Simd.{first_chunks}
+use Rattle.std.proofs.lemmas.Iterator.{YieldsList-from_slice}
+use Rattle.std.proofs.lemmas.Iterator.Search.{any_from_yields_List}
+use Rattle.lists.specs.Limits.{member_limit}
 use Rattle.figures.specs.Figures.{live_in}
-use Rattle.admission.specs.Admission.{pools_misranked}
-use Rattle.admission.proofs.EachPool.{misranked_in, misranked_more}
+use Rattle.admission.specs.Admission.{misranked}
+use Rattle.admission.proofs.EachPool.{any-pools}
 use Rattle.admission.proofs.pools_misranked.Goals as goal
 
-pub loop-p-init : goal.loop-p-init
-unfolding pools_misranked
-loop-p-init c = refl
-
-pub returns-then-misranked : goal.returns-then-misranked
-returns-then-misranked c = sym (misranked_in (live_in c.args.status.now) c.args.ranks.now c.args.count c.loop-p.p (omega arith) (cc))
-
-pub loop-p-preserved : goal.loop-p-preserved
-loop-p-preserved c = misranked_more (live_in c.args.status.now) c.args.ranks.now c.loop-p.p c.loop-p.invariant (cc)
+pub returns : goal.returns
+returns c =
+    let ranks = c.args.ranks.now in
+    let read = live_in c.args.status.now in
+    let n = length ranks / member_limit in
+    any_from_yields_List (misranked read) _ _ _ c.any.ensures.ran (YieldsList-from_slice (first_chunks member_limit n ranks) cc) (λ x b q k. search (rules, tests)) ∙ any-pools read ranks n

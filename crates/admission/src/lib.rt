@@ -2,13 +2,13 @@
 // the console says no".
 #![tactic(auto)]
 
-ghost use Rattle.std.specs.Prelude.{◌≡◌, false, ◌||◌, ◌&&◌, ◌+◌, ◌*◌, ◌/◌, ◌≤◌, ◌<◌, eqb, ltb, length, take, None};
+ghost use Rattle.std.specs.Prelude.{◌≡◌, false, ◌||◌, ◌&&◌, ◌+◌, ◌*◌, ◌/◌, ◌≤◌, ◌<◌, eqb, ltb, length, None};
 ghost use Rattle.lists.specs.Checks.{check};
 ghost use Rattle.lists.specs.Limits.{member_limit, rank_limit, pool_limit, sum_limit};
 ghost use Rattle.lists.specs.Sums.{total};
 ghost use Rattle.refusal.specs.Refusal.{answered};
 ghost use Rattle.figures.specs.Figures.{is_live, live_in};
-ghost use Rattle.admission.specs.Admission.{standing, misranked, losses_of, pool_ranks, miscounted, excessive_losses, pools_unready, pools_misranked};
+ghost use Rattle.admission.specs.Admission.{standing, misranked, losses_of, miscounted, excessive_losses, pools_unready, pools_misranked};
 ghost use Rattle.admission.specs.Admission.{losses_admission, pools_admission, unfit, amount_admission, owing};
 
 use figures::{Status, defaulted, status_at, total};
@@ -112,17 +112,7 @@ fn misranked(status: &[Status; 64], ranks: &[u8; 64]) -> bool
     found
 }
 
-/// "64 bytes a pool": the ranks of pool p, counted from 0.
-pub fn pool_ranks(ranks: &[u8], p: usize) -> &[u8]
-    requires { (p < pool_limit) × (member_limit * p + member_limit ≤ length ranks.now) }
-    ensures value { result.now ≡ pool_ranks ranks.now p }
-    ensures len { length result.now ≡ member_limit }
-{
-    let at = MEMBER_LIMIT * p;
-    &ranks[at..at + MEMBER_LIMIT]
-}
-
-// 15, tried on each pool.
+// 15, tried on each pool, which has 64 of the ranks.
 fn pools_misranked(status: &[Status; 64], ranks: &[u8]) -> bool
     ensures { result ≡ pools_misranked (live_in status.now) ranks.now (length ranks.now / member_limit) }
 {

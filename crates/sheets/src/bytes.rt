@@ -2,7 +2,7 @@
 ghost use Rattle.std.specs.Prelude.{◌≡◌, ◌+◌, ◌≤◌, length};
 ghost use Rattle.sheets.specs.Bytes.{le16, le32, beyond};
 
-// One function for each size: `from_le_bytes` is a method of the number's type.
+// One function for each size: `from_le_bytes` is a method of the number's type. `loss_to_end` of `stress` has the third size.
 #[tactic(auto, unfolding(crate::specs::Bytes::le16))]
 pub fn le16(bytes: &[u8], at: usize) -> u16
     requires { at + 2 ≤ length bytes.now }

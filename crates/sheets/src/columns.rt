@@ -61,7 +61,9 @@ impl Columns {
     }
 }
 
-// 4 to 7 record by record, and the columns of a sheet in order. `floor` is the least second amount.
+// 4 to 7 record by record, and the columns of a sheet in order. `floor` is the least second amount; `last` is 0 before the first record, as
+// `read_record` has it. No `try_fold`: its closure would take and hand back `(columns, last)` at each record, and is no plainer. Nor one
+// function with `cover::read`: each turn differs, and what is carried from record to record.
 pub fn read(floor: u64, sheet: &[u8]) -> Result<Columns, Refusal>
     ensures { result ≡ answered (member_refusal floor sheet.now) (columns_of sheet.now) }
 {

@@ -34,7 +34,8 @@ fn excessive(floor: u64, found: Record) -> bool
         || second < floor
 }
 
-// The record of these bytes: `floor` is the least second amount, `last` the member of the record before, 0 where there is none.
+// The record of these bytes: `floor` is the least second amount, `last` the member of the record before, 0 where there is none. No Option: 0
+// is below every member, so that one comparison serves the first record too.
 #[tactic(auto, unfolding(lists::specs::Checks::check, crate::specs::Members::member_fault))]
 pub fn read_record(floor: u64, last: u8, bytes: &[u8; 16]) -> Result<Record, Fault>
     ensures { result ≡ answered (member_fault floor last bytes.now) (record_of bytes.now) }

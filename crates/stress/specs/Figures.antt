@@ -2,7 +2,8 @@
 use Rattle.std.specs.Prelude.{ℕ, ◌≤◌}
 use Rattle.lists.specs.Limits.{day_limit, scenario_limit, weak_limit}
 
--- the record before, and the weak flags of its block so far
+-- the record before, and the weak flags of its block so far: the fields of the struct again, since what a model is seen as is a type of the
+-- logic, and clauses name these fields
 pub record BeforeFigures : Type 0 where
   pub day : ℕ
   pub scenario : ℕ

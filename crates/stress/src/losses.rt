@@ -1,35 +1,49 @@
 // A record of a stress sheet: document 01's refusals 4 to 8, and the record by them. 4, 5 and 6 are tried together first, and one by one
-// where a record is refused. Tests are joined by `|` and `&`, as the definitions join them by `||` and `&&`: they do not branch.
+// where a record is refused. The tests of one record alone are joined by `|` and `&`, which do not branch; the definitions have `||` and `&&`.
 ghost use Rattle.std.specs.Prelude.{◌≡◌, ◌+◌, ◌≤◌, true, false, not, Option, Some};
 ghost use Rattle.lists.specs.Limits.{weak_limit};
 ghost use Rattle.refusal.specs.Refusal.{answered};
-ghost use Rattle.stress.specs.Stress.{weak_at, same_block, flags_before, passed, stress_outside, stress_rises, stress_fault, loss_of};
-ghost use Rattle.stress.specs.Parts.{le64, block_beyond, stress_faulty};
+ghost use Rattle.stress.specs.Stress.{day_at, scenario_at, weak_at, same_block, flags_before, passed, stress_outside, stress_rises, stress_fault, loss_of};
+ghost use Rattle.stress.specs.Parts.{le64, block_beyond, marks_beyond, stress_faulty};
 
 use crate::{Before, Loss};
 use lists::{AMOUNT_LIMIT, DAY_LIMIT, LAST_MEMBER, MISSING_AMOUNT, SCENARIO_LIMIT, WEAK_LIMIT};
 use refusal::Fault;
 use sheets::bytes::{beyond, le16, le32};
 
+// The day and the scenario of a record: they name its block, and rise as a pair.
+fn block(bytes: &[u8; 16]) -> (u16, u16)
+    ensures { result ≡ (day_at bytes.now, scenario_at bytes.now) }
+{
+    (le16(bytes, 0), le16(bytes, 2))
+}
+
 // Whether day and scenario are within their values.
 fn placed(bytes: &[u8; 16]) -> bool
     ensures { result ≡ not (block_beyond bytes.now) }
 {
-    !beyond(1, DAY_LIMIT, u64::from(le16(bytes, 0))) & !beyond(1, SCENARIO_LIMIT, u64::from(le16(bytes, 2)))
+    let (day, scenario) = block(bytes);
+    !beyond(1, DAY_LIMIT, u64::from(day)) & !beyond(1, SCENARIO_LIMIT, u64::from(scenario))
 }
 
-#[tactic(auto, unfolding(crate::specs::Stress::stress_outside, sheets::specs::Bytes::le16, sheets::specs::Bytes::le32))]
+// Whether the member, the flag and the two zero bytes after it are within their values.
+#[tactic(auto, unfolding(sheets::specs::Bytes::le16))]
+fn marked(bytes: &[u8; 16]) -> bool
+    ensures { result ≡ not (marks_beyond bytes.now) }
+{
+    !beyond(1, LAST_MEMBER, u64::from(bytes[4]))
+        & !beyond(0, 1, u64::from(bytes[5]))
+        & (le16(bytes, 6) == 0)
+}
+
+#[tactic(auto, unfolding(crate::specs::Stress::stress_outside, sheets::specs::Bytes::le32))]
 fn outside(bytes: &[u8; 16]) -> bool
     ensures { result ≡ stress_outside bytes.now }
 {
-    !placed(bytes)
-        | beyond(1, LAST_MEMBER, u64::from(bytes[4]))
-        | beyond(0, 1, u64::from(bytes[5]))
-        | (le16(bytes, 6) != 0)
-        | (le32(bytes, 12) != 0)
+    !placed(bytes) | !marked(bytes) | (le32(bytes, 12) != 0)
 }
 
-// Bytes 8 to 15 as one number.
+// Bytes 8 to 15 as one number: a third size beside `le16` and `le32` of `sheets`, each by a method of its own type.
 #[tactic(auto, unfolding(crate::specs::Parts::le64, sheets::specs::Bytes::le32))]
 fn loss_to_end(bytes: &[u8; 16]) -> u64
     ensures { result ≡ le64 bytes.now 8 }
@@ -41,14 +55,11 @@ fn loss_to_end(bytes: &[u8; 16]) -> u64
 
 // Whether none of 4, 5 and 6 refuses a record whose day and scenario are within their values. Bytes 8 to 15 as one number are the
 // loss where the last four are zero, and above every limit where they are not.
-#[tactic(auto, unfolding(crate::specs::Stress::stress_outside, crate::specs::Parts::stress_faulty, crate::specs::Parts::le64, sheets::specs::Bytes::le16, sheets::specs::Bytes::le32))]
+#[tactic(auto, unfolding(crate::specs::Stress::stress_outside, crate::specs::Parts::stress_faulty, crate::specs::Parts::le64, sheets::specs::Bytes::le32))]
 fn filled(bytes: &[u8; 16]) -> bool
     ensures { block_beyond bytes.now ≡ false → result ≡ not (stress_faulty bytes.now) }
 {
-    !beyond(1, LAST_MEMBER, u64::from(bytes[4]))
-        & !beyond(0, 1, u64::from(bytes[5]))
-        & (le16(bytes, 6) == 0)
-        & (loss_to_end(bytes) <= AMOUNT_LIMIT)
+    marked(bytes) & (loss_to_end(bytes) <= AMOUNT_LIMIT)
 }
 
 // Whether the record is of the block of the record before.
@@ -59,7 +70,7 @@ pub fn same_block(before: &Option<Before>, bytes: &[u8; 16]) -> bool
     let Some(before) = before else {
         return false;
     };
-    le16(bytes, 0) == before.day && le16(bytes, 2) == before.scenario
+    block(bytes) == (before.day, before.scenario)
 }
 
 // The first of 4, 5 and 6 that refuses the record, where one does.
@@ -86,7 +97,7 @@ fn opens_later(before: &Option<Before>, bytes: &[u8; 16]) -> bool
     let Some(last) = before else {
         return true;
     };
-    (last.day, last.scenario) < (le16(bytes, 0), le16(bytes, 2))
+    (last.day, last.scenario) < block(bytes)
 }
 
 // Whether the record's member rises above that of the record before, which is of the same block.
@@ -104,9 +115,10 @@ fn passed(flags: u8, bytes: &[u8; 16]) -> Before
     requires { (stress_faulty bytes.now ≡ false) × (flags ≤ weak_limit) }
     ensures { (before : Option Before) → flags ≡ flags_before before bytes.now + weak_at bytes.now → result ≡ passed before bytes.now }
 {
+    let (day, scenario) = block(bytes);
     Before {
-        day: le16(bytes, 0),
-        scenario: le16(bytes, 2),
+        day,
+        scenario,
         member: bytes[4],
         flags,
     }
@@ -117,7 +129,8 @@ fn passed(flags: u8, bytes: &[u8; 16]) -> Before
 fn counted(flags: u8, bytes: &[u8; 16]) -> Result<Loss, Fault>
     requires sound { stress_faulty bytes.now ≡ false }
     requires few { flags ≤ weak_limit }
-    ensures { (before : Option Before) → stress_rises before bytes.now ≡ true → flags ≡ flags_before before bytes.now → result ≡ answered (stress_fault before bytes.now) (loss_of before bytes.now) }
+    ensures { (before : Option Before) → stress_rises before bytes.now ≡ true → flags ≡ flags_before before bytes.now
+        → result ≡ answered (stress_fault before bytes.now) (loss_of before bytes.now) }
 {
     let flags = flags + bytes[5];
     if WEAK_LIMIT < u64::from(flags) {

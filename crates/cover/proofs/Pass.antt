@@ -10,10 +10,9 @@ use Rattle.lists.proofs.Highest.{without-le}
 use Rattle.refusal.specs.Refusal.{answered, located, at_record}
 use Rattle.refusal.specs.declared.Fault.{Fault}
 use Rattle.refusal.specs.declared.Refusal.{Refusal}
-use Rattle.refusal.proofs.Laws.{located_err, located_ok}
 use Rattle.sheets.specs.Bytes.{record_at, nonzero}
 use Rattle.sheets.specs.Sheet.{record_count}
-use Rattle.sheets.proofs.Laws.{chunk_at}
+use Rattle.sheets.proofs.Records.{next_left, record_is, record_refused, record_accepted}
 use Rattle.stress.specs.Stress.{same_block, flags_before, passed, loss_of, stress_fault, stress_refusal_from, stress_refusal}
 use Rattle.stress.specs.declared.Before.{Before}
 use Rattle.stress.specs.declared.Loss.{Loss}
@@ -125,40 +124,29 @@ module _ (sheet : List ℕ) (i : ℕ) (before : Option Before) (block : Block) (
     abbrev here : List ℕ
     here = record_at sheet i
 
-    abbrev fault : Option Fault
-    fault = stress_fault before here
-
     abbrev rest_refusal : Option Refusal
     rest_refusal = stress_refusal_from (record_count sheet - (i + 1)) sheet (i + 1) (Some (passed before here))
 
     abbrev rest : List StressLoss
     rest = records_from (record_count sheet - (i + 1)) sheet (i + 1)
 
-    left : record_count sheet - i ≡ suc (record_count sheet - (i + 1))
-    left = omega arith
-
-    rest_is : records_from (record_count sheet - i) sheet i ≡ loss_record here ∷ rest
+    rest_is : loss_record here ∷ rest ≡ records_from (record_count sheet - i) sheet i
     unfolding records_from
-    rest_is = ap (λ (n : ℕ). records_from n sheet i) left
+    rest_is = next_left (λ n. records_from n sheet i) (record_count sheet) i more
 
-    refusal_is : at_record (i + 1) fault rest_refusal ≡ stress_refusal sheet
+    refusal_is : at_record (i + 1) (stress_fault before here) rest_refusal ≡ stress_refusal sheet
     unfolding stress_refusal_from
-    refusal_is = sym (ap (λ (n : ℕ). stress_refusal_from n sheet i before) left) ∙ pass.left_to_refuse
+    refusal_is = next_left (λ n. stress_refusal_from n sheet i before) (record_count sheet) i more ∙ pass.left_to_refuse
 
     module _ (records : List (List ℕ)) (read : Result Loss Fault) (found : Result Loss Refusal) (are : records ≡ first_chunks 16 (record_count sheet) sheet)
         (read_is : read ≡ answered (stress_fault before (get_or records i [])) (loss_of before (get_or records i []))) (found_is : found ≡ located (i + 1) read) where
-      pub chunk : get_or records i [] ≡ here
-      chunk = ap (λ (xs : List (List ℕ)). get_or xs i []) are ∙ chunk_at 16 (record_count sheet) i sheet [] more
-
-      as_found : found ≡ located (i + 1) (answered fault (loss_of before here))
-      as_found = found_is ∙ ap (located (i + 1)) (read_is ∙ ap (λ (s : List ℕ). answered (stress_fault before s) (loss_of before s)) chunk)
-
       pub refused : (refusal : Refusal) → found ≡ Err refusal → Err refusal ≡ answered (stress_refusal sheet) (covered_of sheet)
-      refused refusal e = rw (← refusal_is, located_err (i + 1) fault (loss_of before here) rest_refusal (sym as_found ∙ e)) refl
+      refused refusal e =
+          record_refused sheet i more records are (stress_fault before) (loss_of before) read found read_is found_is rest_refusal (covered_of sheet) refusal refusal_is e
 
       module _ (loss : Loss) (e : found ≡ Ok loss) where
-        accepted : (fault ≡ None) × (loss_of before here ≡ loss)
-        accepted = located_ok (i + 1) fault (loss_of before here) (sym as_found ∙ e)
+        accepted : (stress_fault before here ≡ None) × (loss_of before here ≡ loss)
+        accepted = record_accepted sheet i more records are (stress_fault before) (loss_of before) read found read_is found_is loss e
 
         in_order : LossInOrder before here
         in_order = loss_in-order before here accepted.0
@@ -190,13 +178,15 @@ module _ (sheet : List ℕ) (i : ℕ) (before : Option Before) (block : Block) (
         join xs j o = j xs (loss_record here) o (ap (λ (l : Loss). l.amount) accepted.1) (ap (λ (l : Loss). l.weak) accepted.1)
 
         same_here : {same b : Bool} → same ≡ same_block before (get_or records i []) → same ≡ b → same_block before here ≡ b
-        same_here q s = sym (q ∙ ap (same_block before) chunk) ∙ s
+        same_here q s = sym (q ∙ ap (same_block before) (record_is sheet i more records are)) ∙ s
 
         pub goes_on_same : {joined : Block} {same : Bool} → same ≡ same_block before (get_or records i []) → same ≡ true → Joins block joined
             → Pass sheet (i + 1) (Some loss.next) joined worst
         goes_on_same {joined} q t j =
             passes pass.records (flags_of before) (rw pass.block_is at pass.within) (flags_same before s) (join pass.records j pass.block_is)
-            (sym (ap (worst_of worst) (ap (blocks_from pass.records) rest_is ∙ on_same here worst rest pass.records before pass.follows s)) ∙ pass.whole)
+            (sym (ap (worst_of worst) (on_same here worst rest pass.records before pass.follows s))
+            ∙ ap (λ (rs : List StressLoss). worst_of worst (blocks_from pass.records rs)) rest_is
+            ∙ pass.whole)
           where
             s : same_block before here ≡ true
             s = same_here q t
@@ -210,7 +200,9 @@ module _ (sheet : List ℕ) (i : ℕ) (before : Option Before) (block : Block) (
         goes_on_other {opened} {joined} q t o w j =
             passes [] 0 none_within (flags_other before s) (join [] j o)
             (rw (w, pass.block_is)
-            (sym (ap (λ (rs : List StressLoss). worst_of worst (blocks_from pass.records rs)) rest_is ∙ on_other here worst rest pass.records before pass.follows s) ∙ pass.whole))
+            (sym (on_other here worst rest pass.records before pass.follows s)
+            ∙ ap (λ (rs : List StressLoss). worst_of worst (blocks_from pass.records rs)) rest_is
+            ∙ pass.whole))
           where
             s : same_block before here ≡ false
             s = same_here q t

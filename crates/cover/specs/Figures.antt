@@ -1,4 +1,4 @@
--- C and W as numbers.
+-- C and W as numbers: the fields of the struct again, since what a model is seen as is a type of the logic, and clauses name these fields.
 use Rattle.std.specs.Prelude.{ℕ, ◌*◌, ◌≤◌}
 use Rattle.lists.specs.Limits.{amount_limit, weak_limit}
 

@@ -59,7 +59,8 @@ fn flagged_loss(amount: u32, weak: bool) -> u64
     if weak { u64::from(amount) } else { 0 }
 }
 
-// A record joins the block.
+// A record joins the block. `Slight` is asked here and at `worse`, and is no invariant of `Block`: that no sixth flag joins is known of the
+// record before, and not of a block.
 #[tactic(auto, using(crate::proofs::Blocks::joined_above, crate::proofs::Blocks::joined_below))]
 fn joined(block: Block, amount: u32, weak: bool) -> Block
     requires { Slight block × (amount ≤ amount_limit) }
@@ -96,7 +97,8 @@ fn worse(worst: Covered, block: Block) -> Covered
     worst
 }
 
-// 4 to 8 record by record, and C and W of a sheet in order.
+// 4 to 8 record by record, and C and W of a sheet in order. No `try_fold`: its closure would take and hand back `(before, block, worst)` at
+// each record, and is no plainer. Nor one function with `sheets::columns::read`: each turn differs, and what is carried.
 pub fn read(sheet: &[u8]) -> Result<Covered, Refusal>
     ensures { result ≡ answered (stress_refusal sheet.now) (covered_of sheet.now) }
 {

@@ -1,32 +1,27 @@
--- Laws of a quantum shared: parts by the split, and parts joined to requirements.
+-- Laws of a quantum shared: a part of 0, and parts joined to requirements.
 use Prim.Native.Nat.{ℕ, ◌+◌, ◌<◌, max}
-use mathlib.Core.Path.{◌≡◌, ap, sym, ◌∙◌}
+use mathlib.Core.Path.{◌≡◌, ap, ◌∙◌}
 use mathlib.Core.Bool.{Bool, false, cond}
 use mathlib.Core.List.{List, map}
 use native.Mathlib.Omega.{arith}
 use Rattle.std.proofs.lemmas.List.{get_or-map}
 use lib.ListN.{length, get_or, replicate, length-map}
 use Rattle.lists.specs.Limits.{member_limit, contribution_floor}
-use Rattle.lists.specs.Sums.{total, plus, keep}
-use Rattle.lists.proofs.Sums.{all_zeros, length-plus, get_or-plus, length-keep, get_or-keep}
+use Rattle.lists.specs.Sums.{plus, keep}
+use Rattle.lists.proofs.Sums.{zeros, length-plus, get_or-plus, length-keep, get_or-keep}
 use Rattle.split.specs.Split.{split_of}
-use Rattle.sheets.specs.declared.columns.Columns.{Columns}
-use Rattle.requirements.specs.Requirements.{average_volumes, average_margins, stress_losses, margin_part, stress_part, volume_part, parts_of, requirements_of}
 use Rattle.split.proofs.Laws.{length-split, total_of-none}
 
--- shares that add to nothing are all 0
-pub no-shares : (l : ℕ) (ws : List ℕ) → length ws ≡ member_limit → total (split_of l ws) ≡ 0 → replicate member_limit 0 ≡ split_of l ws
-no-shares l ws h e =
-    sym (all_zeros (split_of l ws) e ∙ ap (λ (n : ℕ). replicate n 0) (length-split l ws ∙ h))
-
-pub total_of-none_at : (l : ℕ) (ws : List ℕ) → l ≡ 0 → total (split_of l ws) ≡ 0
-total_of-none_at l ws e = rw e (total_of-none ws)
+-- of a sum of 0 everyone's share is 0
+pub no_shares : (l : ℕ) (ws : List ℕ) → length ws ≡ member_limit → l ≡ 0 → replicate member_limit 0 ≡ split_of l ws
+no_shares l ws h e = zeros member_limit (split_of l ws) (length-split l ws ∙ h) (rw e (total_of-none ws))
 
 -- three parts joined
 abbrev pub joined_of : List Bool → List ℕ → List ℕ → List ℕ → List ℕ
 joined_of present margin stress volume = keep present (map (max contribution_floor) (plus margin (plus stress volume)))
 
-module _ (present : List Bool) (margin stress volume : List ℕ) (n : ℕ) (p : length present ≡ n) (m : length margin ≡ n) (s : length stress ≡ n) (v : length volume ≡ n) where
+module _ (present : List Bool) (margin stress volume : List ℕ) (n : ℕ)
+    (p : length present ≡ n) (m : length margin ≡ n) (s : length stress ≡ n) (v : length volume ≡ n) where
   added_length : length (plus margin (plus stress volume)) ≡ n
   added_length = length-plus margin (plus stress volume) (omega (arith, length-plus stress volume (omega arith))) ∙ m
 
@@ -35,18 +30,10 @@ module _ (present : List Bool) (margin stress volume : List ℕ) (n : ℕ) (p : 
       let l : length (map (max contribution_floor) (plus margin (plus stress volume))) ≡ n = length-map _ _ ∙ added_length in
       length-keep present _ (omega arith) ∙ l
 
-  pub get_or-joined : (k : ℕ) → k < n → get_or (joined_of present margin stress volume) k 0 ≡ cond (get_or present k false) (max contribution_floor (get_or margin k 0 + (get_or stress k 0 + get_or volume k 0))) 0
+  pub get_or-joined : (k : ℕ) → k < n
+      → get_or (joined_of present margin stress volume) k 0 ≡ cond (get_or present k false) (max contribution_floor (get_or margin k 0 + (get_or stress k 0 + get_or volume k 0))) 0
   get_or-joined k h =
       get_or-keep present _ k
       ∙ ap (λ x. cond (get_or present k false) x 0)
       (get_or-map (max contribution_floor) (plus margin (plus stress volume)) k 0 0 (omega (arith, added_length))
       ∙ ap (max contribution_floor) (get_or-plus margin (plus stress volume) k ∙ ap (λ x. get_or margin k 0 + x) (get_or-plus stress volume k)))
-
-pub part_of_columns : {sum part : ℕ} {found column : List ℕ} → sum ≡ part → found ≡ column → split_of sum found ≡ split_of part column
-part_of_columns e f = rw (e, f)
-
-pub requirements_joined : (q : ℕ) (columns : Columns) (present : List Bool) (margin stress volume : List ℕ) → present ≡ columns.present
-    → margin ≡ split_of (margin_part q) (average_margins columns) → stress ≡ split_of (stress_part q) (stress_losses columns) → volume ≡ split_of (volume_part q) (average_volumes columns)
-    → joined_of present margin stress volume ≡ requirements_of q columns
-unfolding requirements_of parts_of
-requirements_joined q columns present margin stress volume p m s v = rw (p, m, s, v)

@@ -83,6 +83,7 @@ fn unshared(part: u64, whole: u64) -> bool
 }
 
 // A part of a quantum by its column. Nothing is divided where there is nothing to share.
+#[tactic(auto, using(crate::proofs::Sharing::no_shares))]
 fn part(sum: u64, whole: u64, weights: &[u32; 64]) -> [u64; 64]
     requires moderate { sum ≤ allocation_limit }
     requires whole_is { whole ≡ total weights.now }
@@ -148,6 +149,7 @@ impl SharesSheet {
             || unshared(parts.volume, self.totals.volume)
     }
 
+    #[tactic(auto, unfolding(crate::specs::Requirements::requirements_of, crate::specs::Requirements::parts_of))]
     fn requirements(&self, quantum: u64) -> [u64; 64]
         requires { quantum ≤ allocation_limit }
         ensures { result ≡ requirements_of quantum self.now }

@@ -1,3 +1,4 @@
 -- The laws of records and sheets, which callers cite.
 pub mod Laws
+pub mod Records
 mod Reading

@@ -121,6 +121,7 @@ impl<'a> Cells<'a> {
     }
 
     /// The next cell, where there is one.
+    #[tactic(auto, using(crate::proofs::Cutting::first_part, crate::proofs::Cutting::last_part))]
     pub fn next(&mut self) -> Option<&'a [u8]>
         ensures { MatchOption result ((self.old ≡ []) × (self.new ≡ [])) (λ cell. self.old ≡ cell.now ∷ self.new) }
     {

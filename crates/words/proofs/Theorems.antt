@@ -1,9 +1,10 @@
 -- What follows of the definitions, for whoever uses the functions.
-use Rattle.std.proofs.Common.{ℕ, ◌<◌, ◌≡◌, Bool, true, false, cond, List, length, ◌==◌, bytes_eq, nat_lt, get_or, Some, None, refl, arith}
+use Rattle.std.proofs.Common.{ℕ, ◌<◌, ◌≤◌, ◌≡◌, sym, Bool, true, false, cond, List, length, ◌==◌, bytes_eq, nat_lt, get_or, Some, None, refl, arith}
 use Rattle.std.specs.List.{position, position_or_len}
 use Rattle.std.proofs.lemmas.Slice.Eq.{bytes_eq-Decides}
 use Rattle.std.proofs.lemmas.List.Quantifiers.{position-Some}
 use Rattle.std.proofs.lemmas.List.Sums.{fails_before_first}
+use Rattle.std.proofs.lemmas.Option.{none-some}
 use borrow.Author.Tests.{eqb-true, eqb-false, ltb-false}
 
 -- `bytes_eq` is equality
@@ -24,16 +25,14 @@ module _ (x : ℕ) (s : List ℕ) (place : ℕ) (e : position (λ b. b == x) s �
   pub found_there : get_or s place 0 ≡ x
   found_there = eqb-true (get_or s place 0) x (position-Some (λ b. b == x) s place 0 e).1
 
--- where no place is found, none holds the byte
-pub found_nowhere : (x : ℕ) (s : List ℕ) → position (λ b. b == x) s ≡ None → (k : ℕ) → k < length s → get_or s k 0 ≡ x → ⊥
-found_nowhere x s e k h = go (nat_lt at (length s)) refl e
+-- where no place is found, the search runs to the end
+pub runs_out : (p : ℕ → Bool) (s : List ℕ) → position p s ≡ None → length s ≤ position_or_len p s
+runs_out p s e = go (nat_lt (position_or_len p s) (length s)) refl e
   where
-    p : ℕ → Bool
-    p = λ b. b == x
+    go : (c : Bool) → nat_lt (position_or_len p s) (length s) ≡ c → cond c (Some (position_or_len p s)) None ≡ None → length s ≤ position_or_len p s
+    go true l f = absurd (none-some _ (sym f))
+    go false l f = ltb-false (position_or_len p s) (length s) l
 
-    at : ℕ
-    at = position_or_len p s
-
-    go : (c : Bool) → nat_lt at (length s) ≡ c → cond c (Some at) None ≡ None → get_or s k 0 ≡ x → ⊥
-    go true l f = let z : ◌≡◌ {A = ℕ} 0 1 = cc in absurd (omega arith)
-    go false l f = eqb-false (get_or s k 0) x (fails_before_first p s k 0 (omega (arith, ltb-false at (length s) l)))
+-- and no place holds the byte
+pub found_nowhere : (x : ℕ) (s : List ℕ) → position (λ b. b == x) s ≡ None → (k : ℕ) → k < length s → get_or s k 0 ≡ x → ⊥
+found_nowhere x s e k h = eqb-false (get_or s k 0) x (fails_before_first (λ b. b == x) s k 0 (omega (arith, runs_out (λ b. b == x) s e)))

@@ -5,6 +5,7 @@ use Rattle.std.specs.Int.{to_le_bytes, w16, w32}
 use Rattle.lists.specs.Checks.{check}
 use Rattle.lists.specs.Texts.{ascii}
 use Rattle.numbers.specs.Numbers.{read_of}
+use Rattle.words.specs.Words.{or_unreadable}
 use Rattle.words.specs.declared.Unreadable.{Unreadable}
 use Rattle.cells.specs.Cells.{without_return, content_of, trimmed, field_of, byte_of, half_of, amount_of, cells_of}
 use Rattle.rows.specs.declared.Kind.{Kind}
@@ -40,10 +41,6 @@ abbrev pub record_of : Kind → List (List ℕ) → Option Record
 record_of Kind.Register cells = member_of cells
 record_of Kind.Shares cells = member_of cells
 record_of Kind.Stress cells = stress_of cells
-
-abbrev pub or_unreadable : Option Record → Result (Option Record) Unreadable
-or_unreadable (Some row) = Ok (Some row)
-or_unreadable None = Err (record {})
 
 -- "a line with no word is skipped"
 unfoldable pub row_of : Kind → List ℕ → Result (Option Record) Unreadable

@@ -17,6 +17,7 @@ pub enum Kind {
 }
 
 /// A record of a sheet: of a register or a shares sheet, or of a stress sheet.
+// It holds whatever is typed, its amounts side by side as callers have them; a `sheets::Record` was read, and is within the limits.
 #[derive(Clone, Copy, Debug, PartialEq, Eq)]
 pub enum Record {
     Member {
@@ -32,7 +33,8 @@ pub enum Record {
     },
 }
 
-/// A kind by its name.
+/// A kind by its name. (A `TryFrom` would want an error that says nothing, and a relation beside `named_of`.)
+// The tests are no `match` on byte strings: an arm of one tells a proof how long the word is, and not its bytes (tried, with a lemma for a word).
 #[tactic(auto, unfolding(crate::specs::Rows::named_of, lists::specs::Checks::check))]
 pub fn kind_named(word: &[u8]) -> Option<Kind>
     ensures { result ≡ named_of word.now }
@@ -101,14 +103,11 @@ pub fn read_row(kind: Kind, line: &[u8]) -> Result<Option<Record>, Unreadable>
         Kind::Register | Kind::Shares => read_member(line),
         Kind::Stress => read_stress(line),
     };
-    match record {
-        Some(record) => Ok(Some(record)),
-        None => Err(Unreadable),
-    }
+    record.map(Some).ok_or(Unreadable)
 }
 
 impl Record {
-    /// Its bytes in a sheet.
+    /// Its bytes in a sheet. (Named as std's `to_le_bytes` is, and no `From`, which would not say which bytes.)
     pub fn bytes(self) -> [u8; 16]
         ensures { result ≡ bytes_of self }
     {

@@ -12,7 +12,7 @@ use lists::LAST_MEMBER;
 use numbers::read_number;
 use words::{Words, find};
 
-// The rank of a member, 1 to 64.
+// A rank, and the member, 1 to 64, that has it.
 #[derive(Clone, Copy)]
 struct Rank {
     member: u64,
@@ -33,25 +33,25 @@ fn read_rank(word: &[u8]) -> Option<Rank>
     Some(Rank { member, rank })
 }
 
-// Gives a member the rank that a word says, where it has none yet. Answers whether it does.
-fn take_rank(word: &[u8], ranks: &mut [u8; 64], named: &mut [bool; 64]) -> bool
-    ensures value { result ≡ is_good named.old (rank_of word.now) }
-    ensures ranks_after { result ≡ true → ranks.new ≡ given ranks.old (rank_of word.now) }
-    ensures named_after { result ≡ true → named.new ≡ marked named.old (rank_of word.now) }
+// Gives a member the rank that a word says, where it has none yet. (Who is named stands beside the ranks: one typed as missing is 255, as is one not
+// typed, and the ranks are handed on as bytes.)
+fn take_rank(word: &[u8], ranks: &mut [u8; 64], named: &mut [bool; 64]) -> Option<()>
+    ensures value { is_some result ≡ is_good named.old (rank_of word.now) }
+    ensures ranks_after { OnSome result (ranks.new ≡ given ranks.old (rank_of word.now)) }
+    ensures named_after { OnSome result (named.new ≡ marked named.old (rank_of word.now)) }
 {
-    let Some(Rank { member, rank }) = read_rank(word) else {
-        return false;
-    };
+    let Rank { member, rank } = read_rank(word)?;
     let place = (member - 1) as usize;
     if named[place] {
-        return false;
+        return None;
     }
     named[place] = true;
     ranks[place] = rank;
-    true
+    Some(())
 }
 
 /// Reads the ranks of a pool, up to the next `/` or the end. Answers whether a further pool follows, and None where a word gives no rank that can be used.
+// (A flag, since that a pool follows says nothing of the ranks; this one's are good either way.)
 #[tactic(auto, unfolding(lists::specs::Checks::check, crate::specs::Pools::pools_of))]
 pub fn read_ranks(words: &mut Words, ranks: &mut [u8; 64]) -> Option<bool>
     ensures readable { is_some result ≡ all_good unnamed (to_slash words.old) }
@@ -64,9 +64,7 @@ pub fn read_ranks(words: &mut Words, ranks: &mut [u8; 64]) -> Option<bool>
         if word == b"/".as_slice() {
             return Some(true);
         }
-        if !take_rank(word, ranks, &mut named) {
-            return None;
-        }
+        take_rank(word, ranks, &mut named)?;
     }
     Some(false)
 }

@@ -2,6 +2,7 @@
 use Rattle.std.proofs.Common.{ℕ, ◌+◌, ◌≤◌, ◌<◌, ◌≡◌, refl, sym, ap, ◌∙◌, Bool, true, false, ◌&&◌, List, [], ◌∷◌, length, set, map, Some, None, arith}
 use Rattle.std.proofs.lemmas.Slice.Eq.{bytes_eq-Decides}
 use Rattle.std.proofs.lemmas.List.{set_past}
+use Rattle.std.proofs.lemmas.Option.{none-some}
 use Rattle.lists.specs.Checks.{check}
 use Rattle.numbers.specs.Numbers.{read_of}
 use Rattle.typed_ranks.specs.TypedRanks.{missing_ranks, unnamed, all_good, ranks_in}
@@ -15,9 +16,6 @@ use Rattle.lines.specs.declared.Pool.{Pool}
 slash_none : (w : List ℕ) → is_slash w ≡ true → read_of w ≡ None
 unfolding read_of check
 slash_none w h = rw ((bytes_eq-Decides w _).0 h) refl
-
-clash : {X : Type 0} {n : ℕ} → None ≡ Some n → X
-clash e = let z : ◌≡◌ {A = ℕ} 0 1 = cc in absurd (omega arith)
 
 pub number_none : (ws : List (List ℕ)) → number_in ws ≡ None → is_readable (to_slash ws) ≡ false
 unfolding check
@@ -38,13 +36,13 @@ pub record Begins (ws : List (List ℕ)) (n : ℕ) : Type 0 where
 
 pub number_some : (ws : List (List ℕ)) (n : ℕ) → number_in ws ≡ Some n → Begins ws n
 unfolding check
-number_some [] n e = clash e
+number_some [] n e = absurd (none-some n e)
 number_some (w ∷ ws) n e =
     let g : is_slash w ≡ false = go (is_slash w) refl in
     record { readable = rw (g, e) refl; loss = rw (g, e) refl; ranks = rw g refl; further = rw g refl; fewer = omega arith }
   where
     go : (t : Bool) → is_slash w ≡ t → t ≡ false
-    go true h = clash (sym (slash_none w h) ∙ e)
+    go true h = absurd (none-some n (sym (slash_none w h) ∙ e))
     go false h = refl
 
 -- values put behind those that are there, while they have places

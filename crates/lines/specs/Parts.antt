@@ -1,5 +1,5 @@
 -- What the parts of `lines` promise each other. No rule of document 01 is here.
-use Rattle.std.specs.Prelude.{ℕ, ◌+◌, ◌<◌, ◌≡◌, List, length, set}
+use Rattle.std.specs.Prelude.{ℕ, ◌+◌, ◌^◌, ◌<◌, ◌≡◌, List, length, set}
 use Rattle.typed_ranks.specs.Pools.{to_slash, further_pools, pools_from}
 use Rattle.lines.specs.Defaults.{loss_typed, ranks_of_pool, pools_in, ranks_beside}
 use Rattle.lines.specs.declared.Pool.{Pool}
@@ -11,6 +11,7 @@ pub record PoolRead (all : List (List ℕ)) (pool : Pool) (left : List (List ℕ
   pub ranks : pool.ranks ≡ ranks_of_pool (to_slash all)
   pub further : further_pools all ≡ pools_from pool.more left
   pub fewer : length left < length all
+  pub countable : length all < 2 ^ 64
 
 -- one pool more, in its own place; behind the fourth there is none
 abbrev pub added : Typed → ℕ → List ℕ → Typed

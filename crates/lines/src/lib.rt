@@ -31,7 +31,7 @@ pub const NO_RANKS: [[u8; 64]; 4] = [[MISSING_RANK; 64]; 4];
 fn number(words: &mut Words) -> Option<u64>
     ensures value { result ≡ number_in words.old }
     ensures words_left { words.new ≡ behind words.old }
-    ensures countable { length words.new < 2 ^ 64 }
+    ensures countable { length words.old < 2 ^ 64 }
 {
     read_number(words.next()?)
 }
@@ -48,7 +48,7 @@ fn pair(words: &mut Words) -> Option<(u64, u64)>
     Some((read_number(member)?, read_number(amount)?))
 }
 
-// A pool as it is typed, and whether a further one follows.
+// A pool as it is typed, and whether a further one follows, which says nothing of its loss and ranks.
 #[derive(Clone, Copy)]
 struct Pool {
     loss: u64,
@@ -57,6 +57,7 @@ struct Pool {
 }
 
 // The words of a pool.
+#[tactic(auto, using(crate::proofs::Pooling::number_none, crate::proofs::Pooling::number_some))]
 fn read_pool(words: &mut Words) -> Option<Pool>
     ensures readable { is_some result ≡ is_readable (to_slash words.old) }
     ensures pool { IfSome result (λ pool. PoolRead words.old pool words.new) }
@@ -92,7 +93,6 @@ fn added(typed: Typed, pool: Pool) -> Typed
 
 // What follows the member of a default: one pool behind the other.
 fn read_pools(words: &mut Words) -> Option<Typed>
-    requires { length words.old < 2 ^ 64 }
     ensures readable { is_some result ≡ all_readable (pools_of words.old) }
     ensures typed { IfSome result (λ typed. typed ≡ typed_in (pools_of words.old)) }
 {
@@ -120,13 +120,12 @@ fn default_line(words: &mut Words, ranks: &mut [[u8; 64]; 4]) -> Option<DrillCal
     ensures ranks_after { ranks.new ≡ default_ranks words.old }
 {
     let member = number(words)?;
-    let typed = read_pools(words)?;
-    let of_pools = typed.ranks;
-    *ranks = of_pools;
-    Some(DrillCall::Default {
-        member,
-        pools: typed.pools,
-    })
+    let Typed {
+        pools,
+        ranks: typed,
+    } = read_pools(words)?;
+    *ranks = typed;
+    Some(DrillCall::Default { member, pools })
 }
 
 // A line that says the same thing as its first word.
@@ -139,7 +138,7 @@ fn alone(says: Line, words: &mut Words) -> Option<Line>
     }
 }
 
-// A line that begins with a word other than `default`.
+// A line that begins with a word other than `default`. (Tests and no `match` on byte strings, as in `rows::kind_named`.)
 #[tactic(auto, unfolding(lists::specs::Checks::check, crate::specs::Lines::other_line))]
 fn other_line(word: &[u8], words: &mut Words) -> Option<Line>
     ensures { result ≡ other_line word.now words.old }
@@ -188,10 +187,7 @@ pub fn read_line(line: &[u8], ranks: &mut [[u8; 64]; 4]) -> Result<Option<Line>,
     let Some(word) = words.next() else {
         return Ok(None);
     };
-    match said(word, &mut words, ranks) {
-        Some(line) => Ok(Some(line)),
-        None => Err(Unreadable),
-    }
+    said(word, &mut words, ranks).map(Some).ok_or(Unreadable)
 }
 
 /// The ranks that go with a call: a default's pools have 64 each, and the other calls read none.

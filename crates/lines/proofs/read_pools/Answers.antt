@@ -7,7 +7,7 @@ use Rattle.lines.proofs.Pooling.{reading_starts, reading_bad, reading_turn, read
 use Rattle.lines.proofs.read_pools.Goals as goal
 
 pub loop-pool-init : goal.loop-pool-init
-loop-pool-init c = record { reading = reading_starts (pools_of c.args.words.now); countable = omega (arith, c.requires) }
+loop-pool-init c = record { reading = reading_starts (pools_of c.args.words.now); countable = λ h. absurd (omega (arith, h)) }
 
 pub returns-in_err-pool-clause-readable : goal.returns-in_err-pool-clause-readable
 unfolding pools_of
@@ -35,5 +35,5 @@ loop-pool-preserved c =
     let known = c.in_ok-pool.ensures in
     record {
       reading = reading_turn _ l.typed _ l.words _ _ l.invariant.reading known.readable known.pool c.added-typed.ensures true (not-false _ c.if-not-pool.false);
-      countable = omega (arith, l.invariant.countable, known.pool.fewer, ap (λ t. t.pools.count) c.added-typed.ensures);
+      countable = λ h. grind (arith, l.invariant.countable, known.pool.fewer, known.pool.countable, ap (λ t. t.pools.count) c.added-typed.ensures);
     }

@@ -8,7 +8,7 @@ abbrev pub invariant-loop-pool : goal.invariant-loop-pool
 invariant-loop-pool l =
     record {
       reading : Reading (pools_of l.initial.words) (pools_of l.words) l.typed;
-      countable : l.typed.pools.count + length l.words < 2 ^ 64;
+      countable : 0 < l.typed.pools.count → l.typed.pools.count + length l.words < 2 ^ 64;
     }
 
 abbrev pub decreases-loop-pool : goal.decreases-loop-pool

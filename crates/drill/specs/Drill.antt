@@ -5,7 +5,7 @@ use Rattle.waterfall.specs.Register.{Register}
 use Rattle.waterfall.specs.Pools.{pooled_allocation, pooled_refusal, pooled_of, pooled_slip}
 use Rattle.waterfall.specs.Calls.{payment_refusal, payment_of, replenishment_refusal, replenishment_of, close_refusal, close_of}
 use Rattle.waterfall.specs.Reply.{Reply, nothing}
-use Rattle.waterfall.specs.declared.Allocation.{Allocation}
+use Rattle.layers.specs.declared.Allocation.{Allocation}
 use Rattle.waterfall.specs.declared.Outcome.{Outcome}
 use Rattle.drill.specs.declared.DrillCall.{DrillCall}
 use Rattle.drill.specs.declared.DrillCall.TheVariants.{Default, Payment, Replenishment, Close}

@@ -1,5 +1,5 @@
 -- A default's answer as C hands it over: six layers and the shortfall. The fallen call is not on a page.
-use Rattle.waterfall.specs.declared.Allocation.{Allocation}
+use Rattle.layers.specs.declared.Allocation.{Allocation}
 use Rattle.host.specs.declared.DefaultAnswer.{DefaultAnswer}
 
 abbrev pub answer_of : DefaultAnswer → Allocation

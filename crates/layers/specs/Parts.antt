@@ -9,6 +9,7 @@ use Rattle.admission.specs.Admission.{losses_of, excessive_losses, pools_misrank
 use Rattle.admission.specs.declared.Pools.{Pools}
 use Rattle.rooms.specs.Parts.{Roomy, Leaves, Shares}
 use Rattle.pools.specs.Pools.{sums_of, charges_by_pools}
+use Rattle.layers.specs.declared.Estate.{Estate}
 use Rattle.layers.specs.declared.Placed.{Placed}
 
 -- what layer 4 is asked with
@@ -28,21 +29,32 @@ pub record Allocatable (status : List Status) (contributions outstanding cap cal
   pub pooled : Pooled pools (replace status member Status.InDefault) contributions ranks
   pub roomy : Roomy cap called
 
+-- what a member leaves, by the lists of a register
+abbrev pub estate_of : List ℕ → List ℕ → List ℕ → ℕ → Estate
+estate_of outstanding margin contribution member =
+    record {
+      fallen = figure outstanding member;
+      margin = figure margin member;
+      contribution = figure contribution member;
+    }
+
 -- losses and a fallen call go down the six layers; `left1` to `left5` are what is left after each
-pub record GoesDown (losses : List ℕ) (fallen margin contribution tranche1 tranche2 : ℕ) (others : List Bool) (contributions rooms ranks : List ℕ) (placed : Placed) : Type 0 where
+pub record GoesDown (losses : List ℕ) (estate : Estate) (tranche1 tranche2 : ℕ) (others : List Bool) (contributions rooms ranks : List ℕ)
+    (placed : Placed) : Type 0 where
   pub left1 : ℕ
   pub left2 : ℕ
   pub left3 : ℕ
   pub left5 : ℕ
-  pub fallen_is : placed.fallen ≡ fallen
-  pub layer1 : Leaves (total losses + fallen) margin placed.margin left1
-  pub layer2 : Leaves left1 contribution placed.contribution left2
-  pub layer3 : Leaves left2 tranche1 placed.tranche1 left3
-  pub charges_are : placed.charges ≡ charges_by_pools (sums_of (placed.margin + placed.contribution + placed.tranche1) fallen losses) (keep others contributions) ranks
-  pub members_are : placed.members ≡ total placed.charges
-  pub layer5 : Leaves (left3 - placed.members) tranche2 placed.tranche2 left5
+  pub fallen_is : placed.allocation.fallen ≡ estate.fallen
+  pub layer1 : Leaves (total losses + estate.fallen) estate.margin placed.allocation.margin left1
+  pub layer2 : Leaves left1 estate.contribution placed.allocation.contribution left2
+  pub layer3 : Leaves left2 tranche1 placed.allocation.tranche1 left3
+  pub charges_are : let a = placed.allocation in
+      placed.charges ≡ charges_by_pools (sums_of (a.margin + a.contribution + a.tranche1) estate.fallen losses) (keep others contributions) ranks
+  pub members_are : placed.allocation.members ≡ total placed.charges
+  pub layer5 : Leaves (left3 - placed.allocation.members) tranche2 placed.allocation.tranche2 left5
   pub over4 : Bool
   pub over6 : Bool
   pub over4_is : over4 ≡ exceeds placed.charges contributions
-  pub layer6 : Shares rooms left5 placed.called placed.calls placed.short over6
+  pub layer6 : Shares rooms left5 placed.called placed.allocation.calls placed.allocation.short over6
   pub over_is : placed.over ≡ (over4 || over6)

@@ -4,11 +4,11 @@
 ghost use Rattle.std.specs.Prelude.{◌≡◌, ◌++◌, ◌+◌, ◌≤◌, length, drop};
 ghost use Rattle.lists.specs.Limits.{member_limit, allocation_limit};
 ghost use Rattle.lists.specs.Sums.{total};
-ghost use Rattle.figures.specs.Figures.{figure, live_in, others};
+ghost use Rattle.figures.specs.Figures.{live_in, others};
 ghost use Rattle.admission.specs.Admission.{losses_of};
 ghost use Rattle.rooms.specs.Rooms.{rooms};
 ghost use Rattle.rooms.specs.Parts.{Roomy};
-ghost use Rattle.layers.specs.Parts.{Pooled, GoesDown, Allocatable};
+ghost use Rattle.layers.specs.Parts.{Pooled, GoesDown, Allocatable, estate_of};
 
 use admission::Pools;
 use figures::{Status, defaulted, figure_of, write};
@@ -16,7 +16,8 @@ use lists::MEMBER_LIMIT;
 use pools::{charge_by_pools, sums_of};
 use rooms::{layer, share_rooms};
 
-/// The figures of a register that a default is placed by, each list by member number, and the tranches of our own contribution.
+/// The figures of a register that a default is placed by, each list by member number, and the tranches of our own contribution. Lists, since a layer reads one
+/// figure of every member; and no register, whose fields are private and which layers know nothing of.
 #[derive(Clone, Copy)]
 pub struct Figures<'a> {
     pub status: &'a [Status; 64],
@@ -38,9 +39,9 @@ struct Estate {
     contribution: u64,
 }
 
-/// The fallen call, what the six layers give, what is left after them, and whether a share passes what it is drawn from.
-#[derive(Clone, Copy)]
-pub struct Placed {
+/// What an accepted default answers: the fallen (lapsed) call, the six layers and the shortfall.
+#[derive(Clone, Copy, Debug, PartialEq, Eq)]
+pub struct Allocation {
     pub fallen: u64,
     pub margin: u64,
     pub contribution: u64,
@@ -49,9 +50,15 @@ pub struct Placed {
     pub tranche2: u64,
     pub calls: u64,
     pub short: u64,
+}
+
+/// A default as it is placed: its answer, what each member is charged in layer 4 and called in layer 6, and whether a share passes what it is drawn from.
+#[derive(Clone, Copy)]
+pub struct Placed {
+    pub allocation: Allocation,
     pub charges: [u64; 64],
     pub called: [u64; 64],
-    // A second answer: what is placed is right either way.
+    // A flag, and no Result: the allocation and the charges are promised either way, and an error would carry neither.
     pub over: bool,
 }
 
@@ -61,8 +68,8 @@ fn place(figures: Figures, estate: Estate, pools: Pools, ranks: &[u8]) -> Placed
     requires moderate { total (losses_of pools) + estate.fallen ≤ allocation_limit }
     requires pooled { Pooled pools figures.status.now figures.contribution.now ranks.now }
     requires roomy { Roomy figures.cap.now figures.called.now }
-    ensures { let read = figures.entry in
-        GoesDown (losses_of pools) estate.fallen estate.margin estate.contribution read.tranche1 read.tranche2 (live_in read.status.now) read.contribution.now (rooms (live_in read.status.now) read.cap.now read.called.now) ranks.now result }
+    ensures { let read = figures.entry in let marks = live_in read.status.now in let rooms = rooms marks read.cap.now read.called.now in
+        GoesDown (losses_of pools) estate read.tranche1 read.tranche2 marks read.contribution.now rooms ranks.now result }
 {
     let first = layer(pools.together() + estate.fallen, estate.margin);
     let second = layer(first.left, estate.contribution);
@@ -74,26 +81,22 @@ fn place(figures: Figures, estate: Estate, pools: Pools, ranks: &[u8]) -> Placed
         estate.fallen,
         sums,
     );
-    let mut charges = [0; 64];
-    let fourth = charge_by_pools(
-        sums,
-        figures.status,
-        figures.contribution,
-        ranks,
-        &mut charges,
-    );
+    let fourth = charge_by_pools(sums, figures.status, figures.contribution, ranks);
     let fifth = layer(third.left - fourth.total, figures.tranche2);
     let sixth = share_rooms(figures.status, figures.cap, figures.called, fifth.left);
+    let charges = fourth.charges;
     let called = sixth.shares;
     Placed {
-        fallen: estate.fallen,
-        margin: first.gives,
-        contribution: second.gives,
-        tranche1: third.gives,
-        members: fourth.total,
-        tranche2: fifth.gives,
-        calls: sixth.total,
-        short: sixth.left,
+        allocation: Allocation {
+            fallen: estate.fallen,
+            margin: first.gives,
+            contribution: second.gives,
+            tranche1: third.gives,
+            members: fourth.total,
+            tranche2: fifth.gives,
+            calls: sixth.total,
+            short: sixth.left,
+        },
         charges,
         called,
         over: fourth.over | sixth.over,
@@ -103,8 +106,9 @@ fn place(figures: Figures, estate: Estate, pools: Pools, ranks: &[u8]) -> Placed
 // A default that 11 to 15, 21 and 22 do not refuse, by the figures of the register that it is declared in. Nothing is changed yet.
 pub fn allocate(figures: Figures, member: u64, pools: Pools, ranks: &[u8]) -> Placed
     requires { Allocatable figures.status.now figures.contribution.now figures.outstanding.now figures.cap.now figures.called.now member pools ranks.now }
-    ensures { let read = figures.entry in let marks = others read.status.now member in
-        GoesDown (losses_of pools) (figure read.outstanding.now member) (figure read.margin.now member) (figure read.contribution.now member) read.tranche1 read.tranche2 marks read.contribution.now (rooms marks read.cap.now read.called.now) ranks.now result }
+    ensures { let read = figures.entry in let marks = others read.status.now member in let rooms = rooms marks read.cap.now read.called.now in
+        let estate = estate_of read.outstanding.now read.margin.now read.contribution.now member in
+        GoesDown (losses_of pools) estate read.tranche1 read.tranche2 marks read.contribution.now rooms ranks.now result }
 {
     let estate = Estate {
         fallen: figure_of(figures.outstanding, member),
@@ -124,9 +128,9 @@ pub fn allocate(figures: Figures, member: u64, pools: Pools, ranks: &[u8]) -> Pl
 }
 
 // "The slip's first 64 numbers receive each member's layer 4 charge, the next 64 its call": the slip is a lent buffer.
-pub fn tell(placed: Placed, slip: &mut [u64])
+pub fn tell(placed: &Placed, slip: &mut [u64])
     requires { member_limit + member_limit ≤ length slip.old }
-    ensures { slip.new ≡ placed.charges ++ placed.called ++ drop (member_limit + member_limit) slip.old }
+    ensures { slip.new ≡ placed.now.charges ++ placed.now.called ++ drop (member_limit + member_limit) slip.old }
 {
     write(slip, 0, &placed.charges);
     write(slip, MEMBER_LIMIT, &placed.called);

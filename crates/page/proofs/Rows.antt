@@ -11,7 +11,7 @@ use Rattle.lists.specs.Limits.{printed_limit}
 use Rattle.lists.specs.Checks.{check}
 use Rattle.lists.specs.Texts.{ascii}
 use Rattle.lists.proofs.Checks.{check_past, neither}
-use Rattle.waterfall.specs.declared.Allocation.{Allocation}
+use Rattle.layers.specs.declared.Allocation.{Allocation}
 use Rattle.std.proofs.Math.ListN.{drop_of_length-le}
 use Rattle.std.proofs.Common.{append-nil, take, ap, take_at, drop_at}
 use Rattle.std.proofs.lemmas.List.{set_at, replicate_more, length-replicate, drop-replicate, replicate-append-replicate}

@@ -21,7 +21,7 @@ use Rattle.waterfall.specs.Pools.{loss_together, pooled_charges, pooled_allocati
 use Rattle.admission.specs.declared.Pools.{Pools}
 use Rattle.waterfall.proofs.Default.{placed}
 use Rattle.waterfall.proofs.Pooled.{pooled_layer4}
-use Rattle.waterfall.specs.declared.Allocation.{Allocation}
+use Rattle.layers.specs.declared.Allocation.{Allocation}
 use Rattle.page.specs.Parts.{Within}
 use Rattle.page.specs.Page.{spaces, left_aligned, right_aligned, row_of, heading, line, page_of, page_length, amounts_of, page_refusal, page_left, PrintAlike}
 use Rattle.page.proofs.Rows.{right-length, row-line-length, page-length, within, printable}

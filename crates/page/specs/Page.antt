@@ -6,7 +6,7 @@ use Rattle.lists.specs.Checks.{check}
 use Rattle.lists.specs.Texts.{ascii}
 use Rattle.indian_digits.specs.IndianDigits.{indian_of}
 use Rattle.refusal.specs.declared.Refusal.{Refusal}
-use Rattle.waterfall.specs.declared.Allocation.{Allocation}
+use Rattle.layers.specs.declared.Allocation.{Allocation}
 
 -- n spaces
 abbrev pub spaces : ℕ → List ℕ

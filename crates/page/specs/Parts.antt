@@ -1,7 +1,7 @@
 -- What the parts of `page` promise each other. No rule of document 01 is here.
 use Rattle.std.specs.Prelude.{◌≤◌}
 use Rattle.lists.specs.Limits.{printed_limit}
-use Rattle.waterfall.specs.declared.Allocation.{Allocation}
+use Rattle.layers.specs.declared.Allocation.{Allocation}
 
 -- the amounts of an answer that a page prints
 pub record Within (a : Allocation) : Type 0 where

@@ -156,7 +156,7 @@ pub fn charge_by_pools(
     contribution: &[u32; 64],
     ranks: &[u8],
 ) -> Charged
-    requires poolable { Poolable sums.now status.now contribution.now ranks.now }
+    requires { Poolable sums.now status.now contribution.now ranks.now }
     ensures { Charges (charges_by_pools sums.now (keep (live_in status.now) contribution.now) ranks.now) contribution.now result }
 {
     let whole = total(sums);

@@ -5,7 +5,7 @@ use Rattle.waterfall.specs.Register.{Register, GivenBack}
 use Rattle.waterfall.specs.Pools.{pooled_of}
 use Rattle.waterfall.specs.Calls.{payment_of, replenishment_of, close_of}
 use Rattle.waterfall.specs.Reply.{judged}
-use Rattle.waterfall.specs.declared.Allocation.{Allocation}
+use Rattle.layers.specs.declared.Allocation.{Allocation}
 use Rattle.waterfall.specs.declared.Outcome.{Outcome}
 use Rattle.drill.specs.Drill.{applied_of}
 use Rattle.drill.specs.declared.DrillCall.{DrillCall}

@@ -1,7 +1,7 @@
 -- What the parts of `print_page` promise each other. No rule of document 01 is here.
 use Rattle.std.specs.Prelude.{◌≡◌, Bool, false, Option, Some, None}
 use Rattle.lists.specs.Limits.{printed_limit}
-use Rattle.waterfall.specs.declared.Allocation.{Allocation}
+use Rattle.layers.specs.declared.Allocation.{Allocation}
 use Rattle.page.specs.Page.{amounts_of, any_above}
 
 -- whether an answer has an amount above what a page prints

@@ -2,7 +2,7 @@
 use Rattle.std.specs.Prelude.{ℕ, List, Option, Some, None, Ok, Err}
 use Rattle.lists.specs.Texts.{ascii}
 use Rattle.waterfall.specs.Reply.{Reply}
-use Rattle.waterfall.specs.declared.Allocation.{Allocation}
+use Rattle.layers.specs.declared.Allocation.{Allocation}
 use Rattle.page.specs.Page.{page_of}
 
 -- "the latest accepted default": no other call has an allocation in its answer

@@ -14,7 +14,7 @@ use Rattle.admission.specs.Admission.{standing}
 use Rattle.admission.proofs.Passed.{passes, place}
 use Rattle.waterfall.specs.Register.{Register, GivenBack}
 use Rattle.waterfall.specs.Reply.{Layer, layer1, layer2, layer3, layer4, layer5, layer6, allocated, Says, nothing, judged}
-use Rattle.waterfall.specs.declared.Allocation.{Allocation}
+use Rattle.layers.specs.declared.Allocation.{Allocation}
 
 -- a test that is answered by itself, and what is answered by it
 pub is_refused : {e : Refusal} (o : Option Refusal) → answered o (tt {0}) ≡ Err e → o ≡ Some e

@@ -29,7 +29,7 @@ use Rattle.waterfall.specs.Default.{standing_of, charges, after3, allocation_of,
 use Rattle.waterfall.specs.Pools.{loss_together, pool_sums, pooled_charges, pooled_allocation, pooled_refusal, pooled_of, pooled_slip, AsBefore}
 use Rattle.waterfall.specs.Reply.{judged}
 use Rattle.waterfall.specs.Register.{Register}
-use Rattle.waterfall.specs.declared.Allocation.{Allocation}
+use Rattle.layers.specs.declared.Allocation.{Allocation}
 use Rattle.waterfall.proofs.Answer.{is_none}
 use Rattle.waterfall.proofs.Given.{length-others, length-standing}
 use Rattle.waterfall.proofs.Pooled.{length_pool-sums, total_pool-sums}

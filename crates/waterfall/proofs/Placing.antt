@@ -25,13 +25,13 @@ use Rattle.admission.proofs.Admitted.{PoolsAdmitted, pools_admitted, pools_admis
 use Rattle.rooms.specs.Rooms.{gives, rooms}
 use Rattle.rooms.proofs.Shares.{layer_as, whole_shared}
 use Rattle.pools.specs.Pools.{sums_of, charges_by_pools}
-use Rattle.layers.specs.Parts.{Allocatable, GoesDown}
+use Rattle.layers.specs.Parts.{Allocatable, GoesDown, estate_of}
 use Rattle.layers.specs.declared.Placed.{Placed}
 use Rattle.waterfall.specs.Register.{Register, GivenBack}
 use Rattle.waterfall.specs.Default.{standing_of, rooms_of, fallen_call, to_place, on_margin, after1, on_contribution, after2, on_tranche1, after3, after4, on_tranche2, after5, on_calls, calls, shortfall, allocation_of, settled_of, overdrawn, slip_of}
 use Rattle.waterfall.specs.Pools.{loss_together, given_before, pool_sums, pooled_charges, pooled_allocation, pooled_refusal, pooled_of, pooled_slip}
-use Rattle.waterfall.specs.declared.Allocation.{Allocation}
-use Rattle.waterfall.specs.Parts.{settled_as, allocation_in, Settles}
+use Rattle.layers.specs.declared.Allocation.{Allocation}
+use Rattle.waterfall.specs.Parts.{settled_as, Settles}
 use Rattle.waterfall.specs.Reply.{Reply, Says, judged}
 use Rattle.waterfall.proofs.Answer.{Placeless, placeless_check, placeless_standing, says-allocated}
 use Rattle.waterfall.proofs.Default.{Layer4, unmarked, rooms-within, charges-within, calls-within, margin-gives, contribution-gives, tranche1-gives, tranche2-gives}
@@ -93,12 +93,12 @@ module _ (r : Register) (member : ℕ) (pools : Pools) (ranks slip : List ℕ) w
   pub record PlacedAs (x : Placed) : Type 0 where
     pub unrefused : pooled_refusal r member pools ranks slip ≡ None
     pub settles : Settles r member x
-    pub allocation_is : allocation_in x ≡ pooled_allocation r member pools ranks
+    pub allocation_is : x.allocation ≡ pooled_allocation r member pools ranks
     pub settled_is : settled_as r member x ≡ settled_of r member (loss_together pools) (pooled_charges r member pools ranks)
     pub slip_is : x.charges ++ x.called ++ drop (member_limit + member_limit) slip ≡ slip_of r member (loss_together pools) (pooled_charges r member pools ranks) slip
     pub slip_fits : member_limit + member_limit ≤ length slip
 
-  pub accepted : {x : Placed} → PlacedAs x → {a : Allocation} {next : Register} {left : List ℕ} → a ≡ allocation_in x → next ≡ settled_as r member x
+  pub accepted : {x : Placed} → PlacedAs x → {a : Allocation} {next : Register} {left : List ℕ} → a ≡ x.allocation → next ≡ settled_as r member x
       → left ≡ x.charges ++ x.called ++ drop (member_limit + member_limit) slip → Declared (Ok (Some a)) next left
   unfolding pooled_of pooled_slip judged check
   accepted p a n l =
@@ -152,16 +152,16 @@ module _ (r : Register) (g : GivenBack r) (member : ℕ) (pools : Pools) (ranks 
       }
 
   -- what goes down the layers, by what the register has
-  module _ (x : Placed) (d : GoesDown (losses_of pools) (figure r.outstanding member) (figure r.margin member) (figure r.contribution member) r.tranche1 r.tranche2 (live_in marked) r.contribution (rooms (live_in marked) r.cap r.called) ranks x) where
-    layer1_is : (x.margin ≡ on_margin r member loss) × (d.left1 ≡ after1 r member loss)
+  module _ (x : Placed) (d : GoesDown (losses_of pools) (estate_of r.outstanding r.margin r.contribution member) r.tranche1 r.tranche2 (live_in marked) r.contribution (rooms (live_in marked) r.cap r.called) ranks x) where
+    layer1_is : (x.allocation.margin ≡ on_margin r member loss) × (d.left1 ≡ after1 r member loss)
     unfolding on_margin after1 to_place fallen_call
     layer1_is = layer_as _ _ _ _ _ _ d.layer1 refl refl
 
-    layer2_is : (x.contribution ≡ on_contribution r member loss) × (d.left2 ≡ after2 r member loss)
+    layer2_is : (x.allocation.contribution ≡ on_contribution r member loss) × (d.left2 ≡ after2 r member loss)
     unfolding on_contribution after2
     layer2_is = layer_as _ _ _ _ _ _ d.layer2 layer1_is.1 refl
 
-    layer3_is : (x.tranche1 ≡ on_tranche1 r member loss) × (d.left3 ≡ after3 r member loss)
+    layer3_is : (x.allocation.tranche1 ≡ on_tranche1 r member loss) × (d.left3 ≡ after3 r member loss)
     unfolding on_tranche1 after3
     layer3_is = layer_as _ _ _ _ _ _ d.layer3 layer2_is.1 refl
 
@@ -171,11 +171,11 @@ module _ (r : Register) (g : GivenBack r) (member : ℕ) (pools : Pools) (ranks 
         d.charges_are
         ∙ ap (λ (n : ℕ). charges_by_pools (sums_of n (figure r.outstanding member) (losses_of pools)) (standing_of r member) ranks) (rw (layer1_is.0, layer2_is.0, layer3_is.0))
 
-    left4_is : d.left3 - x.members ≡ after4 r member loss charged
+    left4_is : d.left3 - x.allocation.members ≡ after4 r member loss charged
     unfolding after4
     left4_is = rw (layer3_is.1, d.members_are, layer4_is)
 
-    layer5_is : (x.tranche2 ≡ on_tranche2 r member loss charged) × (d.left5 ≡ after5 r member loss charged)
+    layer5_is : (x.allocation.tranche2 ≡ on_tranche2 r member loss charged) × (d.left5 ≡ after5 r member loss charged)
     unfolding on_tranche2 after5
     layer5_is = layer_as _ _ _ _ _ _ d.layer5 left4_is refl
 
@@ -184,7 +184,7 @@ module _ (r : Register) (g : GivenBack r) (member : ℕ) (pools : Pools) (ranks 
     called_is =
         d.layer6.shares_are ∙ ap (λ (n : ℕ). split_of (gives n (total (rooms (live_in marked) r.cap r.called))) (rooms (live_in marked) r.cap r.called)) layer5_is.1
 
-    allocation_is : allocation_in x ≡ pooled_allocation r member pools ranks
+    allocation_is : x.allocation ≡ pooled_allocation r member pools ranks
     unfolding pooled_allocation allocation_of fallen_call on_calls shortfall rooms_of
     allocation_is =
         rw (

@@ -13,7 +13,7 @@ use Rattle.admission.specs.Admission.{admission}
 use Rattle.rooms.specs.Rooms.{gives, rooms}
 use Rattle.waterfall.specs.Register.{Register}
 use Rattle.waterfall.specs.Reply.{judged}
-use Rattle.waterfall.specs.declared.Allocation.{Allocation}
+use Rattle.layers.specs.declared.Allocation.{Allocation}
 use Rattle.waterfall.specs.declared.Outcome.{Outcome}
 
 -- "the fallen call": the defaulter's outstanding call

@@ -10,7 +10,7 @@ use Rattle.pools.specs.Pools.{sums_of, portions_of, charges_in, charges_by_pools
 use Rattle.waterfall.specs.Default.{fallen_call, standing_of, on_margin, on_contribution, on_tranche1, allocation_of, settled_of, overdrawn, slip_of, default_of, default_slip}
 use Rattle.waterfall.specs.Register.{Register}
 use Rattle.waterfall.specs.Reply.{judged}
-use Rattle.waterfall.specs.declared.Allocation.{Allocation}
+use Rattle.layers.specs.declared.Allocation.{Allocation}
 use Rattle.waterfall.specs.declared.Outcome.{Outcome}
 
 -- all pool losses

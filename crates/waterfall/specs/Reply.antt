@@ -4,7 +4,7 @@ use Rattle.lists.specs.Checks.{check}
 use Rattle.refusal.specs.Refusal.{number_of, position_of, refused_number}
 use Rattle.refusal.specs.declared.Refusal.{Refusal}
 use Rattle.waterfall.specs.Register.{Register}
-use Rattle.waterfall.specs.declared.Allocation.{Allocation}
+use Rattle.layers.specs.declared.Allocation.{Allocation}
 use Rattle.waterfall.specs.declared.Outcome.{Outcome}
 
 -- a refusal, or that the call is accepted; an accepted default answers its allocation

@@ -2,9 +2,9 @@
 ghost use Rattle.std.specs.Prelude.{◌≡◌};
 ghost use Rattle.waterfall.specs.Reply.{Says};
 ghost use Rattle.waterfall.specs.Pools.{pooled_allocation, pooled_refusal, pooled_of, pooled_slip};
-ghost use Rattle.waterfall.specs.Parts.{Settles, settled_as, allocation_in};
+ghost use Rattle.waterfall.specs.Parts.{Settles, settled_as};
 
-use crate::{Allocation, Outcome, Register, Reply};
+use crate::{Outcome, Register, Reply};
 use admission::{Pools, default_admission};
 use figures::{add_to, defaulted, lower, take_from};
 use layers::{Figures, Placed, allocate, tell};
@@ -17,14 +17,15 @@ impl Register {
         ensures { self.new ≡ settled_as self.old member placed.now }
     {
         self.status = defaulted(self.status, member);
-        lower(&mut self.margin, member, placed.margin);
-        lower(&mut self.contribution, member, placed.contribution);
-        lower(&mut self.outstanding, member, placed.fallen);
-        self.tranche1 -= placed.tranche1;
-        self.tranche2 -= placed.tranche2;
+        let gives = &placed.allocation;
+        lower(&mut self.margin, member, gives.margin);
+        lower(&mut self.contribution, member, gives.contribution);
+        lower(&mut self.outstanding, member, gives.fallen);
+        self.tranche1 -= gives.tranche1;
+        self.tranche2 -= gives.tranche2;
         take_from(&mut self.contribution, &placed.charges);
-        add_to(&mut self.outstanding, &placed.called, placed.calls);
-        add_to(&mut self.called, &placed.called, placed.calls);
+        add_to(&mut self.outstanding, &placed.called, gives.calls);
+        add_to(&mut self.called, &placed.called, gives.calls);
     }
 
     // The six layers change nothing yet: 19 may still refuse the default.
@@ -49,8 +50,8 @@ impl Register {
             return Err(Refusal::Overdrawn);
         }
         self.settle(member, &placed);
-        tell(placed, slip);
-        Ok(Some(Allocation::from(&placed)))
+        tell(&placed, slip);
+        Ok(Some(placed.allocation))
     }
 
     pub fn declare(mut self, member: u64, pools: Pools, ranks: &[u8], slip: &mut [u64]) -> Outcome
@@ -62,23 +63,6 @@ impl Register {
         Outcome {
             reply,
             register: self,
-        }
-    }
-}
-
-impl From<&Placed> for Allocation {
-    ghost from_gives = { λ placed allocation. allocation ≡ allocation_in placed.now };
-
-    fn from(placed: &Placed) -> Allocation {
-        Allocation {
-            fallen: placed.fallen,
-            margin: placed.margin,
-            contribution: placed.contribution,
-            tranche1: placed.tranche1,
-            members: placed.members,
-            tranche2: placed.tranche2,
-            calls: placed.calls,
-            short: placed.short,
         }
     }
 }

@@ -9,6 +9,7 @@ pub mod replenishment;
 pub mod view;
 
 use figures::Status;
+pub use layers::Allocation;
 use refusal::Refusal;
 use std::marker::Model;
 
@@ -47,19 +48,6 @@ impl Model for Register {
 pub struct Opened {
     pub refusal: Option<Refusal>,
     pub register: Register,
-}
-
-/// What an accepted default answers: the fallen (lapsed) call, the six layers and the shortfall.
-#[derive(Clone, Copy, Debug, PartialEq, Eq)]
-pub struct Allocation {
-    pub fallen: u64,
-    pub margin: u64,
-    pub contribution: u64,
-    pub tranche1: u64,
-    pub members: u64,
-    pub tranche2: u64,
-    pub calls: u64,
-    pub short: u64,
 }
 
 /// What a drill call answers: its refusal, or that it is accepted; an accepted default answers its allocation.

@@ -50,9 +50,9 @@ sums_of-requires-clause-moderate c =
     let at = (goal.at.sums_of-requires-clause-moderate c).After-layer-third in
     omega (arith, ap total (counted at (omega arith)), (pooled at).sums_fit)
 
-pub charge_by_pools-fourth-requires-clause-poolable : goal.charge_by_pools-fourth-requires-clause-poolable
-charge_by_pools-fourth-requires-clause-poolable c =
-    let at = (goal.at.charge_by_pools-fourth-requires-clause-poolable c).After-layer-third in
+pub charge_by_pools-fourth-requires : goal.charge_by_pools-fourth-requires
+charge_by_pools-fourth-requires c =
+    let at = (goal.at.charge_by_pools-fourth-requires c).After-layer-third in
     rw (c.sums_of.ensures ∙ counted at (omega arith)) (pooled at)
 
 pub overflow_sub-third : goal.overflow_sub-third

@@ -5,4 +5,4 @@ use Rattle.layers.proofs.tell.Goals as goal
 
 pub returns : goal.returns
 returns c =
-    slip-written c.args.placed.charges c.args.placed.called c.args.slip.now _ _ (omega arith) c.write.ensures c.write-2.ensures
+    slip-written c.args.placed.now.charges c.args.placed.now.called c.args.slip.now _ _ (omega arith) c.write.ensures c.write-2.ensures

@@ -17,19 +17,19 @@ module _ (c : After-of_live-standing) where
   poolable : let a = c.args in Poolable a.sums.now a.status.now c.of_live-standing.result a.ranks.now
   poolable =
       let a = c.args in
-      standing_poolable a.sums.now a.status.now a.contribution.now a.ranks.now c.of_live-standing.result c.requires.poolable stands
+      standing_poolable a.sums.now a.status.now a.contribution.now a.ranks.now c.of_live-standing.result c.requires stands
 
 pub charge_others-requires-clause-chargeable : goal.charge_others-requires-clause-chargeable
 charge_others-requires-clause-chargeable c =
     let a = c.args in
-    alone a.sums.now a.status.now a.contribution.now a.ranks.now (omega arith) (omega arith) c.requires.poolable c.if-sums-eq1.true
+    alone a.sums.now a.status.now a.contribution.now a.ranks.now (omega arith) (omega arith) c.requires c.if-sums-eq1.true
 
 pub returns-then-sums-eq1 : goal.returns-then-sums-eq1
 returns-then-sums-eq1 c =
     let a = c.args in
     let e = c.charge_others.ensures in
     record {
-      charges_are = e.charges_are ∙ alone_so a.sums.now a.status.now a.contribution.now a.ranks.now (omega arith) (omega arith) c.requires.poolable c.if-sums-eq1.true _ c.total-whole.ensures;
+      charges_are = e.charges_are ∙ alone_so a.sums.now a.status.now a.contribution.now a.ranks.now (omega arith) (omega arith) c.requires c.if-sums-eq1.true _ c.total-whole.ensures;
       total_is = e.total_is;
       over_is = e.over_is;
     }
@@ -46,5 +46,5 @@ pub returns : goal.returns
 returns c =
     let a = c.args in
     let at = goal.at.returns c in
-    standing-charges a.sums.now a.status.now a.contribution.now a.ranks.now c.of_live-standing.result c.requires.poolable (stands at.After-of_live-standing) _
+    standing-charges a.sums.now a.status.now a.contribution.now a.ranks.now c.of_live-standing.result c.requires (stands at.After-of_live-standing) _
     (by-pools_so a.sums.now a.status.now c.of_live-standing.result a.ranks.now (omega arith) (omega arith) (poolable at.After-of_live-standing) c.charge_pools-division.result c.charge_pools-division.ensures _ c.total-whole.ensures _ c.tie.ensures)

@@ -1,5 +1,5 @@
 -- `waterfall::Register::place` meets its contract.
-use mathlib.Core.Path.{◌≡◌, sym, ◌∙◌}
+use mathlib.Core.Path.{◌≡◌, refl, sym, ◌∙◌}
 use Rattle.std.specs.Prelude.{Some, None}
 use Rattle.std.proofs.lemmas.Result.{err_from_is_err_and}
 use Rattle.refusal.specs.declared.Refusal.{Refusal}
@@ -55,5 +55,5 @@ tell-requires c = (placed (goal.at.tell-requires c).Else-placed).slip_fits
 pub returns : goal.returns
 returns c =
     let a = c.args in
-    let d = accepted a.self.now a.member a.pools a.ranks.now a.slip.now (placed (goal.at.returns c).Else-placed) c.from.ensures c.settle.ensures c.tell.ensures in
+    let d = accepted a.self.now a.member a.pools a.ranks.now a.slip.now (placed (goal.at.returns c).Else-placed) refl c.settle.ensures c.tell.ensures in
     record { answer = d.answer; register_after = d.register_after; slip_after = d.slip_after }

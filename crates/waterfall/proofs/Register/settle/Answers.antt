@@ -23,8 +23,8 @@ module _ (c : After-add_to-2) where
         cap = c.self.inside.cap;
         outstanding = c.add_to.new.figures;
         called = c.add_to-2.new.figures;
-        tranche1 = c.self.inside.tranche1 - c.args.placed.now.tranche1;
-        tranche2 = c.self.inside.tranche2 - c.args.placed.now.tranche2;
+        tranche1 = c.self.inside.tranche1 - c.args.placed.now.allocation.tranche1;
+        tranche2 = c.self.inside.tranche2 - c.args.placed.now.allocation.tranche2;
       }
 
   same : left ≡ settled_as c.args.self.now c.args.member c.args.placed.now

@@ -11,9 +11,10 @@ use lib.Seq.{take_all}
 use Rattle.std.specs.Prelude.{Option, None}
 use Rattle.std.specs.Option.{option_or}
 use Rattle.std.specs.List.{range_with_len}
+use Rattle.std.proofs.lemmas.Bool.{or_parts}
 use Rattle.lists.specs.Limits.{member_limit, pool_limit, sum_limit}
 use Rattle.lists.specs.Sums.{total}
-use Rattle.lists.proofs.Checks.{check_past, neither}
+use Rattle.lists.proofs.Checks.{check_past}
 use Rattle.refusal.specs.declared.Refusal.{Refusal}
 use Rattle.figures.specs.declared.Status.{Status}
 use Rattle.figures.specs.Figures.{status_at, others}
@@ -41,8 +42,8 @@ module _ (status : List Status) (member loss : ℕ) (ranks : List ℕ) (slip : �
         present = s.present;
         not_in-default = s.not_in-default;
         loss_fits = ltb-false _ _ c.0;
-        ranks_length = eqb-true _ _ (not-false _ (neither _ _ d.0).0);
-        slip-length = ltb-false _ _ (neither (not (eqb (length ranks) member_limit)) _ d.0).1;
+        ranks_length = eqb-true _ _ (not-false _ (or_parts _ _ d.0).0);
+        slip-length = ltb-false _ _ (or_parts (not (eqb (length ranks) member_limit)) _ d.0).1;
         well_ranked = f.0;
       }
 
@@ -72,7 +73,7 @@ module _ (status : List Status) (member : ℕ) (pools : Pools) (ranks : List ℕ
       let t = check_past (ltb sum_limit (total (losses_of pools))) _ _ (λ q. cc) c.1 in
       let d = check_past (pools_unready pools.count (length ranks) slip) _ _ (λ q. cc) t.1 in
       let f = check_past (pools_misranked (others status member) ranks pools.count) _ rest (λ q. cc) d.1 in
-      let counted = neither (ltb pools.count 1) _ n.0 in
+      let counted = or_parts (ltb pools.count 1) _ n.0 in
       record {
         present = s.present;
         not_in-default = s.not_in-default;
@@ -80,8 +81,8 @@ module _ (status : List Status) (member : ℕ) (pools : Pools) (ranks : List ℕ
         few = ltb-false _ _ counted.1;
         each_fits = c.0;
         losses_fit = ltb-false _ _ t.0;
-        ranks_length = eqb-true _ _ (not-false _ (neither _ _ d.0).0);
-        slip-length = ltb-false _ _ (neither (not (eqb (length ranks) (member_limit * pools.count))) _ d.0).1;
+        ranks_length = eqb-true _ _ (not-false _ (or_parts _ _ d.0).0);
+        slip-length = ltb-false _ _ (or_parts (not (eqb (length ranks) (member_limit * pools.count))) _ d.0).1;
         well_ranked = f.0;
       }
 

@@ -14,10 +14,10 @@ use Rattle.std.specs.List.{list_any}
 use Rattle.std.specs.Simd.{first_chunks}
 use Rattle.std.proofs.lemmas.List.{drop-drop}
 use Rattle.std.proofs.lemmas.List.FromFn.{length-map-range_with_len, fill_by_all}
+use Rattle.std.proofs.Math.Bool.{or-false}
+use Rattle.std.proofs.lemmas.Bool.{or_parts}
 use Rattle.lists.specs.Limits.{member_limit, sum_limit}
 use Rattle.lists.specs.Sums.{total}
-use Rattle.lists.proofs.Cases.{or-false}
-use Rattle.lists.proofs.Checks.{neither}
 use Rattle.lists.proofs.Tests.{positive-sum}
 use Rattle.lists.proofs.Sums.{total_bound}
 use Rattle.admission.specs.Admission.{misranked, loss_of, losses_of, pool_ranks, excessive_losses, pools_misranked}
@@ -37,8 +37,8 @@ first-losses pools h =
 -- where no loss is above its limit, each has it, and their sum its own
 pub losses_fit : (losses : List ℕ) → excessive_losses losses ≡ false → (k : ℕ) → get_or losses k 0 ≤ sum_limit
 losses_fit [] e k = zero-le
-losses_fit (loss ∷ losses) e zero = ltb-false sum_limit loss (neither (ltb sum_limit loss) _ e).0
-losses_fit (loss ∷ losses) e (suc k) = losses_fit losses (neither (ltb sum_limit loss) _ e).1 k
+losses_fit (loss ∷ losses) e zero = ltb-false sum_limit loss (or_parts (ltb sum_limit loss) _ e).0
+losses_fit (loss ∷ losses) e (suc k) = losses_fit losses (or_parts (ltb sum_limit loss) _ e).1 k
 
 pub total_fits : (losses : List ℕ) → excessive_losses losses ≡ false → total losses ≤ sum_limit * length losses
 total_fits losses e = total_bound sum_limit losses (losses_fit losses e)
@@ -60,7 +60,7 @@ pub pool_well-ranked : (read : List Bool) (ranks : List ℕ) (n : ℕ) → pools
 unfolding pools_misranked
 pool_well-ranked read ranks zero e p h = absurd (omega arith)
 pool_well-ranked read ranks (suc n) e p h =
-    let o = neither (pools_misranked read ranks n) _ e in
+    let o = or_parts (pools_misranked read ranks n) _ e in
     ⊎_elim
     (λ q. ap (λ (m : ℕ). misranked read (pool_ranks ranks m)) q ∙ o.1)
     (λ l. pool_well-ranked read ranks n o.0 p l)

@@ -9,9 +9,10 @@ use borrow.Author.Tests.{ltb-false}
 use lib.Dec.{ltb}
 use lib.ListN.{length, get_or, drop, drop_of_length-le}
 use lib.Seq.{drop-cons}
+use Rattle.std.proofs.lemmas.Bool.{or_parts}
 use Rattle.lists.specs.Limits.{rank_limit}
 use Rattle.lists.specs.Sums.{keep}
-use Rattle.lists.proofs.Checks.{neither, and_right}
+use Rattle.lists.proofs.Checks.{and_right}
 use Rattle.figures.specs.declared.Status.{Status}
 use Rattle.figures.specs.Figures.{is_live, live_in}
 use Rattle.figures.proofs.Figures.{live_at, length-live}
@@ -24,17 +25,17 @@ unfolding misranked
 ranks-read [] ranks e k h t = absurd (false≢true t)
 ranks-read (b ∷ read) [] e k h t = absurd (omega arith)
 ranks-read (b ∷ read) (rank ∷ ranks) e zero h t =
-    let o = neither _ _ (and_right b _ t (neither _ _ e).0) in (ltb-false rank 1 o.0, ltb-false rank_limit rank o.1)
-ranks-read (b ∷ read) (rank ∷ ranks) e (suc k) h t = ranks-read read ranks (neither (b && (ltb rank 1 || ltb rank_limit rank)) _ e).1 k (omega arith) t
+    let o = or_parts _ _ (and_right b _ t (or_parts _ _ e).0) in (ltb-false rank 1 o.0, ltb-false rank_limit rank o.1)
+ranks-read (b ∷ read) (rank ∷ ranks) e (suc k) h t = ranks-read read ranks (or_parts (b && (ltb rank 1 || ltb rank_limit rank)) _ e).1 k (omega arith) t
 
 -- and those that are not read count as 0
 pub ranks_fit : (read : List Bool) (ranks : List ℕ) → misranked read ranks ≡ false → (k : ℕ) → get_or (keep read ranks) k 0 ≤ rank_limit
 unfolding misranked
 ranks_fit [] ranks e k = zero-le
 ranks_fit (b ∷ read) [] e k = zero-le
-ranks_fit (true ∷ read) (rank ∷ ranks) e zero = ltb-false rank_limit rank (neither (ltb rank 1) _ (neither _ _ e).0).1
+ranks_fit (true ∷ read) (rank ∷ ranks) e zero = ltb-false rank_limit rank (or_parts (ltb rank 1) _ (or_parts _ _ e).0).1
 ranks_fit (false ∷ read) (rank ∷ ranks) e zero = zero-le
-ranks_fit (b ∷ read) (rank ∷ ranks) e (suc k) = ranks_fit read ranks (neither (b && (ltb rank 1 || ltb rank_limit rank)) _ e).1 k
+ranks_fit (b ∷ read) (rank ∷ ranks) e (suc k) = ranks_fit read ranks (or_parts (b && (ltb rank 1 || ltb rank_limit rank)) _ e).1 k
 
 -- the ranks that are read, one a turn -----------------------------------------------
 

@@ -14,7 +14,7 @@ use Rattle.waterfall.specs.Register.{Register, GivenBack}
 use Rattle.waterfall.specs.Reply.{judged}
 use Rattle.waterfall.specs.Calls.{paid_of, payment_refusal, payment_of, replenished_of, replenishment_refusal, replenishment_of, closed_of, close_refusal, close_of}
 use Rattle.waterfall.specs.declared.Outcome.{Outcome}
-use Rattle.figures.proofs.Figures.{replaced, figure-none}
+use Rattle.figures.proofs.Figures.{replaced_at, figure-none}
 use Rattle.waterfall.proofs.Answer.{fit, within_bound}
 use Rattle.waterfall.proofs.Given.{given-paid, given-replenished, given-closed}
 use Rattle.drill.specs.Drill.{Event}
@@ -97,7 +97,7 @@ payment_laws r g who amount ranks slip =
     let h : amount ≤ figure r.outstanding who = within_bound amount _ _ k.fits in
     accepted_laws r g (Payment who amount) ranks slip (paid_of r who amount) (given-paid r g who amount) refl refl (refl, refl, refl, refl, refl)
     (λ m. omega arith)
-    (λ m. replaced (λ b old new. old ≡ cond b amount 0 + new) r.outstanding who m _ k.least (omega (arith, k, g.outstanding_length)) (omega arith) (λ y. omega arith))
+    (λ m. replaced_at 0 (λ b old new. old ≡ cond b amount 0 + new) r.outstanding who m _ k.least (omega (arith, k, g.outstanding_length)) (omega arith) (λ y. omega arith))
     (λ m. refl))
 
 pub replenishment_laws : (r : Register) → GivenBack r → (who amount : ℕ) (ranks slip : List ℕ) → StepLaws r (seen (Replenishment who amount) ranks (replenishment_of r who amount) slip)
@@ -107,7 +107,7 @@ replenishment_laws r g who amount ranks slip =
     let k = fit r who Refusal.UnfitReplenishment _ g e in
     accepted_laws r g (Replenishment who amount) ranks slip (replenished_of r who amount)
     (given-replenished r g who amount (within_bound amount _ _ k.fits)) refl refl (refl, refl, refl, refl, refl)
-    (λ m. replaced (λ b old new. old + cond b amount 0 ≡ new) r.contribution who m _ k.least (omega (arith, k, g.contribution_length)) refl (λ y. omega arith))
+    (λ m. replaced_at 0 (λ b old new. old + cond b amount 0 ≡ new) r.contribution who m _ k.least (omega (arith, k, g.contribution_length)) refl (λ y. omega arith))
     (λ m. omega arith)
     (λ m. refl))
 

@@ -20,7 +20,7 @@ use Rattle.waterfall.specs.Default.{fallen_call, on_margin, on_contribution, cal
 use Rattle.waterfall.specs.Pools.{loss_together, pooled_charges, pooled_allocation, pooled_refusal, pooled_of, pooled_slip}
 use Rattle.admission.proofs.Admitted.{PoolsAdmitted, pools_admitted}
 use Rattle.waterfall.proofs.Default.{Layer4, placed, margin-gives, contribution-gives, tranche1-gives, tranche2-gives, charges-within, left2, left3, left4, left5, left6}
-use Rattle.figures.proofs.Figures.{same_member, other_member, replaced_at, figure_same, figure_other, replaced, figure-plus, figure-le, by-member}
+use Rattle.figures.proofs.Figures.{same_member, other_member, replaced_at, figure-plus, figure-le, by-member}
 use Rattle.waterfall.proofs.Given.{given-settled, length-calls}
 use Rattle.drill.proofs.Order.{layer4, defaulter_known, settled-contribution, settled_other, defaulter_uncharged, empty1, empty2, empty3, empty4, empty5, empty6, ranked_other, by_rank_in_pool, by_rank}
 use Rattle.drill.specs.Drill.{Event}
@@ -125,7 +125,7 @@ module _ (r : Register) (g : GivenBack r) (member : ℕ) (pools : Pools) (ranks 
         cap_stays = refl;
         placed = placed r member loss (pooled_charges r member pools ranks) known4;
         margin = λ m.
-            replaced (λ b old new. old ≡ new + cond b (on_margin r member loss) 0) r.margin member m _ k.0 (omega (arith, k, g.margin_length))
+            replaced_at 0 (λ b old new. old ≡ new + cond b (on_margin r member loss) 0) r.margin member m _ k.0 (omega (arith, k, g.margin_length))
             (omega (arith, margin-gives r member loss (pooled_charges r member pools ranks))) (λ y. omega arith);
         contribution = λ m.
             by-member (λ b. figure r.contribution m + 0 ≡ figure (settled_of r member loss (pooled_charges r member pools ranks)).contribution m + cond b (on_contribution r member loss) 0 + figure (take member_limit left) m) member m
@@ -156,7 +156,7 @@ module _ (r : Register) (g : GivenBack r) (member : ℕ) (pools : Pools) (ranks 
               arith,
               call m,
               figure-plus (replace r.outstanding member 0) (calls r member loss (pooled_charges r member pools ranks)) m,
-              figure_same r.outstanding member m 0 k.0 (omega (arith, k, g.outstanding_length)) e,
+              same_member 0 r.outstanding member m 0 k.0 (omega (arith, k, g.outstanding_length)) e,
               ap (figure r.outstanding) e,
             ))
             (λ d.
@@ -164,7 +164,7 @@ module _ (r : Register) (g : GivenBack r) (member : ℕ) (pools : Pools) (ranks 
               arith,
               call m,
               figure-plus (replace r.outstanding member 0) (calls r member loss (pooled_charges r member pools ranks)) m,
-              figure_other r.outstanding member m 0 k.0 d,
+              other_member 0 r.outstanding member m 0 k.0 d,
             ));
         called = λ m. omega (arith, call m, figure-plus r.called (calls r member loss (pooled_charges r member pools ranks)) m);
         stays-live = λ m s q. other_member Status.Absent r.status member m Status.InDefault k.0 (eqb-false member m q) ∙ s;

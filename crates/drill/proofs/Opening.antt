@@ -22,7 +22,7 @@ use Rattle.figures.specs.Figures.{figure, status_at, replace, none, status_of}
 use Rattle.figures.specs.declared.Status.{Status}
 use Rattle.waterfall.specs.Register.{Register, empty_register}
 use Rattle.waterfall.specs.Opening.{tranche1_of, tranche2_of, opening_register, opening_refusal, opened_of}
-use Rattle.figures.proofs.Figures.{figure_other, replaced, figure-none}
+use Rattle.figures.proofs.Figures.{other_member, replaced_at, figure-none}
 use Rattle.waterfall.proofs.Entered.{accepts}
 use Rattle.drill.specs.Counting.{opening_accepted, figures_from, in_sheet, named, opening_sum, opening_margin, opening_contribution, sheet_cap, opening_tranche1, opening_tranche2}
 
@@ -51,9 +51,9 @@ put-figure f m (suc n) sheet i last xs l z q =
     let w : ℕ = member_at s in
     let o = record_in-order contribution_floor n sheet i last q in
     let next : (k : ℕ) → w < k → figure (replace xs w (f s)) k ≡ 0 =
-    λ k h. figure_other xs w k (f s) o.within.member_least (λ e. omega arith) ∙ z k (omega (arith, o.rises)) in
+    λ k h. other_member 0 xs w k (f s) o.within.member_least (λ e. omega arith) ∙ z k (omega (arith, o.rises)) in
     let entered : figure (replace xs w (f s)) m ≡ figure xs m + cond (eqb w m) (f s) 0 =
-    replaced (λ b old new. new ≡ old + cond b (f s) 0) xs w m (f s) o.within.member_least (omega (arith, o.within.member_most)) (omega (arith, z w o.rises)) (λ y. omega arith) in
+    replaced_at 0 (λ b old new. new ≡ old + cond b (f s) 0) xs w m (f s) o.within.member_least (omega (arith, o.within.member_most)) (omega (arith, z w o.rises)) (λ y. omega arith) in
     omega (
       arith,
       entered,

@@ -26,7 +26,7 @@ use Rattle.waterfall.proofs.Default.{Layer4, unmarked, emptied1, emptied2, empti
 use Rattle.waterfall.proofs.Given.{length-others}
 use Rattle.waterfall.proofs.OnePool.{same-charges}
 use Rattle.waterfall.proofs.Pooled.{pooled_layer4}
-use Rattle.figures.proofs.Figures.{place_of, same_member, other_member, live_at, figure_same, figure_other, figure-plus, figure-minus}
+use Rattle.figures.proofs.Figures.{place_of, same_member, other_member, live_at, figure-plus, figure-minus}
 
 -- one pool: a charge by rank takes juniors first
 juniors_charged : (r : Register) (member loss : ℕ) (ranks : List ℕ) (i j : ℕ) → 0 < get_or (charges r member loss ranks) i 0 → get_or ranks i 0 < get_or ranks j 0 → get_or ranks j 0 ≤ rank_limit
@@ -70,7 +70,7 @@ module _ (r : Register) (g : GivenBack r) (member : ℕ) (pools : Pools) (ranks 
       omega (
         arith,
         figure-minus own charged member,
-        figure_same r.contribution member member (figure r.contribution member - on_contribution r member loss) defaulter_known.0 (omega (arith, defaulter_known, g.contribution_length)) refl,
+        same_member 0 r.contribution member member (figure r.contribution member - on_contribution r member loss) defaulter_known.0 (omega (arith, defaulter_known, g.contribution_length)) refl,
       )
 
   pub settled_other : (n : ℕ) → (member ≡ n → ⊥) → figure after.contribution n ≡ figure r.contribution n - figure charged n
@@ -80,12 +80,12 @@ module _ (r : Register) (g : GivenBack r) (member : ℕ) (pools : Pools) (ranks 
       omega (
         arith,
         figure-minus own charged n,
-        figure_other r.contribution member n (figure r.contribution member - on_contribution r member loss) defaulter_known.0 d,
+        other_member 0 r.contribution member n (figure r.contribution member - on_contribution r member loss) defaulter_known.0 d,
       )
 
   pub settled-margin : figure after.margin member ≡ figure r.margin member - on_margin r member loss
   unfolding settled_of
-  settled-margin = figure_same r.margin member member _ defaulter_known.0 (omega (arith, defaulter_known, g.margin_length)) refl
+  settled-margin = same_member 0 r.margin member member _ defaulter_known.0 (omega (arith, defaulter_known, g.margin_length)) refl
 
   -- the defaulter is not charged in layer 4
   pub defaulter_uncharged : figure charged member ≡ 0

@@ -1,13 +1,13 @@
 -- Laws of what stands at a member's number, and of a list in which that is replaced.
 use Prim.Native.Nat.{ℕ, zero, suc, ◌+◌, ◌-◌, ◌≤◌, ◌<◌, zero-le}
-use mathlib.Core.Path.{◌≡◌, refl, ap, ◌∙◌}
+use mathlib.Core.Path.{◌≡◌, refl, ap}
 use mathlib.Core.Bool.{Bool, true, false, cond}
 use mathlib.Core.List.{List, [], ◌∷◌}
 use native.Mathlib.Numerals.{sub-one}
 use native.Mathlib.Omega.{arith}
 use borrow.Author.Tests.{eqb-true, eqb-false}
 use lib.Dec.{eqb}
-use lib.ListN.{length, get_or, length-map, get_or-map, get_or-eq_default}
+use lib.ListN.{length, get_or, length-map, get_or-map}
 use lib.Seq.{get_or-set_same, get_or-set_other}
 use Rattle.std.specs.List.{sum}
 use Rattle.std.proofs.lemmas.List.Recursion.{is_sum_by}
@@ -64,25 +64,6 @@ figure_at xs (suc k) h = rw sub-one
 pub figure-le_at : (xs : List ℕ) (m : ℕ) → figure xs m ≤ get_or xs (m - 1) 0
 figure-le_at xs zero = zero-le
 figure-le_at xs (suc k) = rw sub-one (omega arith)
-
--- a number with a figure is a member's
-pub figure-member : (xs : List ℕ) (m : ℕ) → 0 < figure xs m → (0 < m) × (m ≤ length xs)
-figure-member xs m h = place_of 0 xs m (λ e. omega arith)
-
--- a number past the list has figure 0
-pub figure_past : (xs : List ℕ) (m : ℕ) → length xs < m → figure xs m ≡ 0
-figure_past xs m h = figure_at xs m (omega arith) ∙ get_or-eq_default xs 0 (omega arith)
-
--- the figure that was put in, and those of the others
-pub figure_same : (xs : List ℕ) (m n x : ℕ) → 0 < m → m ≤ length xs → m ≡ n → figure (replace xs m x) n ≡ x
-figure_same xs m n x h k e = same_member 0 xs m n x h k e
-
-pub figure_other : (xs : List ℕ) (m n x : ℕ) → 0 < m → (m ≡ n → ⊥) → figure (replace xs m x) n ≡ figure xs n
-figure_other xs m n x h e = other_member 0 xs m n x h e
-
-pub replaced : (P : Bool → ℕ → ℕ → Type 0) (xs : List ℕ) (m n x : ℕ) → 0 < m → m ≤ length xs → P true (figure xs m) x → ((y : ℕ) → P false y y)
-    → P (eqb m n) (figure xs n) (figure (replace xs m x) n)
-replaced P xs m n x h k p q = replaced_at 0 P xs m n x h k p q
 
 -- sums and differences place by place
 pub figure-plus : (xs ys : List ℕ) (m : ℕ) → figure (plus xs ys) m ≡ figure xs m + figure ys m

@@ -128,6 +128,7 @@ pub fn add_to(figures: &mut [u32; 64], amounts: &[u64; 64], whole: u64)
 }
 
 // The amounts, added up.
+#[tactic(auto, using(crate::proofs::Figures::total_sum))]
 pub fn total(amounts: &[u64]) -> u64
     requires { total amounts.now < 2 ^ 64 }
     ensures { result ≡ total amounts.now }

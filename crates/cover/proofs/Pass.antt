@@ -53,20 +53,23 @@ pub record Pass (sheet : List ℕ) (i : ℕ) (before : Option Before) (block : B
   pub flags_most : flags_of before ≤ weak_limit
   pub within : Within (flags_of before) block
 
-pub slight : {sheet : List ℕ} {i : ℕ} {before : Option Before} {block : Block} {worst : Covered} → Pass sheet i before block worst → Slight block
-slight p =
+slight_within : (flags : ℕ) (block : Block) → Within flags block → flags ≤ weak_limit → Slight block
+slight_within flags block w h =
     record {
-      top_most = p.within.top_most;
-      second_most = p.within.second_most;
-      flagged_most = omega (arith, p.within.flagged_most, p.flags_most);
+      top_most = w.top_most;
+      second_most = w.second_most;
+      flagged_most = omega (arith, w.flagged_most);
     }
+
+pub slight : {sheet : List ℕ} {i : ℕ} {before : Option Before} {block : Block} {worst : Covered} → Pass sheet i before block worst → Slight block
+slight p = slight_within _ _ p.within p.flags_most
 
 -- no record yet
 none_within : Within 0 (block_of [])
 none_within = rw (← block_of_none) (record { top_most = zero-le; second_most = zero-le; flagged_most = zero-le })
 
 pub slight_none : Slight (block_of [])
-slight_none = rw (← block_of_none) (record { top_most = zero-le; second_most = zero-le; flagged_most = zero-le })
+slight_none = slight_within 0 (block_of []) none_within zero-le
 
 -- the first record
 pub pass_begins : (sheet : List ℕ) → Pass sheet 0 None (block_of []) nothing

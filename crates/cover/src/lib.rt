@@ -64,7 +64,8 @@ fn flagged_loss(amount: u32, weak: bool) -> u64
 #[tactic(auto, using(crate::proofs::Blocks::joined_above, crate::proofs::Blocks::joined_below))]
 fn joined(block: Block, amount: u32, weak: bool) -> Block
     requires { Slight block × (amount ≤ amount_limit) }
-    ensures { (xs : List StressLoss) (x : StressLoss) → block ≡ block_of xs → x.loss ≡ amount → nonzero x.weak ≡ weak → result ≡ block_of (x ∷ xs) }
+    ensures { (xs : List StressLoss) (x : StressLoss) → block ≡ block_of xs → x.loss ≡ amount → nonzero x.weak ≡ weak
+        → result ≡ block_of (x ∷ xs) }
 {
     let flagged = block.flagged + flagged_loss(amount, weak);
     if block.top < amount {

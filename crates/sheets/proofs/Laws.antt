@@ -1,9 +1,9 @@
 -- What the callers know of a record that is in order, and of a sheet that is read record by record.
-use Rattle.std.proofs.Common.{◌≡◌, ℕ, suc, ◌+◌, ◌≤◌, ◌<◌, List, get_or, replicate, None, arith}
+use Rattle.std.proofs.Common.{◌≡◌, ℕ, suc, ◌+◌, ◌<◌, List, replicate, None, arith}
 use Rattle.lists.specs.Limits.{member_limit, amount_limit}
 use Rattle.lists.specs.Checks.{check}
 use Rattle.std.proofs.lemmas.Bool.Decides.{nat_tests}
-use Rattle.lists.proofs.Sums.{get_or_zeros}
+use Rattle.lists.proofs.Sums.{zeros_within}
 use Rattle.refusal.proofs.Laws.{none_at-record}
 use Rattle.sheets.specs.Bytes.{record_at}
 use Rattle.sheets.specs.Members.{member_at, record_of, outside, missing, excessive, member_fault}
@@ -35,7 +35,7 @@ in_order floor last s e =
 -- columns of no records
 pub amounts_none : AmountsFit (replicate member_limit 0) (replicate member_limit 0) (replicate member_limit 0)
 amounts_none =
-    let zeros : (k : ℕ) → get_or (replicate member_limit 0) k 0 ≤ amount_limit = λ k. omega (arith, get_or_zeros member_limit k) in
+    let zeros = zeros_within amount_limit member_limit in
     record { first_fits = zeros; second_fits = zeros; third_fits = zeros }
 
 -- a sheet read record by record --------------------------------------------------

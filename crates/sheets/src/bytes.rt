@@ -1,6 +1,6 @@
 // Numbers of several bytes of a record, the lowest byte first.
 ghost use Rattle.std.specs.Prelude.{◌≡◌, ◌+◌, ◌≤◌, length};
-ghost use Rattle.sheets.specs.Bytes.{le16, le32, beyond};
+ghost use Rattle.sheets.specs.Bytes.{le16, le32};
 
 // One function for each size: `from_le_bytes` is a method of the number's type. `loss_to_end` of `stress` has the third size.
 #[tactic(auto, unfolding(crate::specs::Bytes::le16))]
@@ -17,11 +17,4 @@ pub fn le32(bytes: &[u8], at: usize) -> u32
     ensures { result ≡ le32 bytes.now at }
 {
     u32::from_le_bytes([bytes[at], bytes[at + 1], bytes[at + 2], bytes[at + 3]])
-}
-
-// Whether a number is none of `low` to `high`.
-pub fn beyond(low: u64, high: u64, n: u64) -> bool
-    ensures { result ≡ beyond low high n }
-{
-    !(low..=high).contains(&n)
 }

@@ -4,7 +4,7 @@ ghost use Rattle.refusal.specs.Refusal.{answered};
 ghost use Rattle.sheets.specs.Members.{outside, missing, excessive, member_fault, record_of};
 
 use crate::Record;
-use crate::bytes::{beyond, le32};
+use crate::bytes::le32;
 use lists::{AMOUNT_LIMIT, LAST_MEMBER, MISSING_AMOUNT};
 use refusal::Fault;
 
@@ -13,7 +13,7 @@ use refusal::Fault;
 fn outside(bytes: &[u8; 16]) -> bool
     ensures { result ≡ outside bytes.now }
 {
-    beyond(1, LAST_MEMBER, u64::from(le32(bytes, 0)))
+    !(1..=LAST_MEMBER).contains(&u64::from(le32(bytes, 0)))
 }
 
 #[tactic(auto, unfolding(crate::specs::Members::missing))]

@@ -66,6 +66,7 @@ fn fund_from(
     if quantum != minimum {
         shared = shares.share(quantum)?;
     }
+    // A local: the language does not take an array of one struct straight into the literal of another.
     let requirements = shared.requirements;
     Ok(Funded {
         sized: Sized {
@@ -81,7 +82,7 @@ fn fund_from(
     })
 }
 
-// 1 to 8 in the paper's order, then the figures. Of the lent numbers it reads only how many they are.
+// 1 to 8 in the paper's order, then the figures. Of the lent numbers it reads only how many they are; the other parameters are those of `size`.
 #[tactic(auto, using(refusal::proofs::Laws::answered_cases), unfolding(lists::specs::Checks::check, crate::specs::Sizing::sizing_refusal))]
 fn judge(
     stress: &[u8],
@@ -90,7 +91,7 @@ fn judge(
     available: u64,
     places: usize,
 ) -> Result<Funded, Refusal>
-    ensures value { result ≡ judged stress.now shares.now prevailing available places }
+    ensures answer { result ≡ judged stress.now shares.now prevailing available places }
     ensures room { OnOk result (member_limit ≤ places) }
 {
     if missized(STRESS_LIMIT, stress) || missized(MEMBER_LIMIT, shares) {
@@ -107,7 +108,8 @@ fn judge(
     fund_from(covered, &SharesSheet::new(columns), prevailing, available)
 }
 
-// Month-end fund sizing of any bytes and numbers. At a refusal the lent numbers stay as they are.
+// Month-end fund sizing of any bytes and numbers. At a refusal the lent numbers stay as they are. Its five parameters are those of the paper's
+// call: a struct of the sheets or of the sums would be filled by each host for this call alone.
 #[tactic(auto, using(refusal::proofs::Laws::answered_cases), unfolding(lists::specs::Checks::check, crate::specs::Sizing::sized_of, crate::specs::Sizing::requirements_after))]
 pub fn size(
     stress: &[u8],
@@ -117,7 +119,8 @@ pub fn size(
     requirements: &mut [u64],
 ) -> Result<Sized, Refusal>
     ensures answer { result ≡ sized_of stress.now shares.now prevailing available (length requirements.old) }
-    ensures says { Says result (sizing_refusal stress.now shares.now prevailing available (length requirements.old)) (fund_figures (covered_of stress.now) (columns_of shares.now) prevailing available) }
+    ensures says { Says result (sizing_refusal stress.now shares.now prevailing available (length requirements.old))
+        (fund_figures (covered_of stress.now) (columns_of shares.now) prevailing available) }
     ensures requirements { requirements.new ≡ requirements_after stress.now shares.now prevailing available requirements.old }
 {
     let funded = judge(stress, shares, prevailing, available, requirements.len())?;

@@ -1,5 +1,6 @@
 // A record of a stress sheet: document 01's refusals 4 to 8, and the record by them. 4, 5 and 6 are tried together first, and one by one
-// where a record is refused. The tests of one record alone are joined by `|` and `&`, which do not branch; the definitions have `||` and `&&`.
+// where a record is refused. Within `placed`, `marked`, `outside` and `filled` tests are joined by `|` and `&`, which do not branch; the
+// definitions have `||` and `&&`.
 ghost use Rattle.std.specs.Prelude.{◌≡◌, ◌+◌, ◌≤◌, true, false, not, Option, Some};
 ghost use Rattle.lists.specs.Limits.{weak_limit};
 ghost use Rattle.refusal.specs.Refusal.{answered};
@@ -9,7 +10,7 @@ ghost use Rattle.stress.specs.Parts.{le64, block_beyond, marks_beyond, stress_fa
 use crate::{Before, Loss};
 use lists::{AMOUNT_LIMIT, DAY_LIMIT, LAST_MEMBER, MISSING_AMOUNT, SCENARIO_LIMIT, WEAK_LIMIT};
 use refusal::Fault;
-use sheets::bytes::{beyond, le16, le32};
+use sheets::bytes::{le16, le32};
 
 // The day and the scenario of a record: they name its block, and rise as a pair.
 fn block(bytes: &[u8; 16]) -> (u16, u16)
@@ -23,7 +24,7 @@ fn placed(bytes: &[u8; 16]) -> bool
     ensures { result ≡ not (block_beyond bytes.now) }
 {
     let (day, scenario) = block(bytes);
-    !beyond(1, DAY_LIMIT, u64::from(day)) & !beyond(1, SCENARIO_LIMIT, u64::from(scenario))
+    (1..=DAY_LIMIT).contains(&u64::from(day)) & (1..=SCENARIO_LIMIT).contains(&u64::from(scenario))
 }
 
 // Whether the member, the flag and the two zero bytes after it are within their values.
@@ -31,9 +32,7 @@ fn placed(bytes: &[u8; 16]) -> bool
 fn marked(bytes: &[u8; 16]) -> bool
     ensures { result ≡ not (marks_beyond bytes.now) }
 {
-    !beyond(1, LAST_MEMBER, u64::from(bytes[4]))
-        & !beyond(0, 1, u64::from(bytes[5]))
-        & (le16(bytes, 6) == 0)
+    (1..=LAST_MEMBER).contains(&u64::from(bytes[4])) & (bytes[5] <= 1) & (le16(bytes, 6) == 0)
 }
 
 #[tactic(auto, unfolding(crate::specs::Stress::stress_outside, sheets::specs::Bytes::le32))]
@@ -64,7 +63,7 @@ fn filled(bytes: &[u8; 16]) -> bool
 
 // Whether the record is of the block of the record before.
 pub fn same_block(before: &Option<Before>, bytes: &[u8; 16]) -> bool
-    ensures is { result ≡ same_block before.now bytes.now }
+    ensures same { result ≡ same_block before.now bytes.now }
     ensures tried { result ≡ true → block_beyond bytes.now ≡ false }
 {
     let Some(before) = before else {

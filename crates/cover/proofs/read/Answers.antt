@@ -27,11 +27,11 @@ loop-i-preserved c =
       | then-not-same_block w ↦
           rw w.worst-is
           (goes_on_other _ _ _ _ _ c.loop-i.invariant (omega (arith, c.as_chunks.ensures.front_len)) _ _ _ c.as_chunks.ensures.front c.read_loss.ensures c.located.ensures _ c.in_ok-amount.was
-          c.same_block.ensures.is w.if-not-same_block.true (w.block-is ∙ w.no_block-block-then-not-same_block.ensures) w.worse-worst.ensures c.joined-block.ensures)
+          c.same_block.ensures.same w.if-not-same_block.true (w.block-is ∙ w.no_block-block-then-not-same_block.ensures) w.worse-worst.ensures c.joined-block.ensures)
       | else-not-same_block w ↦
           rw w.worst-is
           (goes_on_same _ _ _ _ _ c.loop-i.invariant (omega (arith, c.as_chunks.ensures.front_len)) _ _ _ c.as_chunks.ensures.front c.read_loss.ensures c.located.ensures _ c.in_ok-amount.was
-          c.same_block.ensures.is w.if-not-same_block.false (rw w.block-is at c.joined-block.ensures))
+          c.same_block.ensures.same w.if-not-same_block.false (rw w.block-is at c.joined-block.ensures))
     ]
 
 pub returns : goal.returns

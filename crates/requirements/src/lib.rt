@@ -1,10 +1,10 @@
 // A quantum shared over the columns of a shares sheet: document 01, "Stress sheet and sizing", refusals 9 and 10.
 #![tactic(auto)]
 
-ghost use Rattle.std.specs.Prelude.{◌≡◌, cond, ◌&&◌, ℕ, ◌+◌, ◌^◌, ◌≤◌, ◌<◌, max, eqb, map, length, get_or};
+ghost use Rattle.std.specs.Prelude.{◌≡◌, cond, ◌&&◌, ◌+◌, ◌^◌, ◌≤◌, ◌<◌, max, eqb, map};
 ghost use Rattle.lists.specs.Highest.{highest as highest_of_all};
-ghost use Rattle.lists.specs.Limits.{member_limit, amount_limit, allocation_limit, contribution_floor};
-ghost use Rattle.lists.specs.Sums.{total, plus, keep};
+ghost use Rattle.lists.specs.Limits.{amount_limit, allocation_limit, contribution_floor};
+ghost use Rattle.lists.specs.Sums.{total, plus, keep, AtMost};
 ghost use Rattle.refusal.specs.Refusal.{answered};
 ghost use Rattle.sheets.specs.Bytes.{nonzero};
 ghost use Rattle.split.specs.Split.{split_of};
@@ -87,9 +87,9 @@ fn unshared(part: u64, whole: u64) -> bool
 fn part(sum: u64, whole: u64, weights: &[u32; 64]) -> [u64; 64]
     requires moderate { sum ≤ allocation_limit }
     requires whole_is { whole ≡ total weights.now }
-    requires weights_fit { (k : ℕ) → get_or weights.now k 0 ≤ amount_limit }
+    requires weights_fit { AtMost weights.now amount_limit }
     ensures shared { result ≡ split_of sum weights.now }
-    ensures within { (k : ℕ) → get_or result k 0 ≤ sum }
+    ensures within { AtMost result sum }
 {
     let mut shares = [0u64; 64];
     if sum == 0 {
@@ -112,9 +112,9 @@ fn requirement(present: bool, margin: u64, stress: u64, volume: u64) -> u64
 
 // The requirements by member number.
 fn joined(present: &[bool; 64], shares: &ByColumn<[u64; 64]>) -> [u64; 64]
-    requires volume_fits { (k : ℕ) → get_or shares.now.volume k 0 ≤ allocation_limit }
-    requires margin_fits { (k : ℕ) → get_or shares.now.margin k 0 ≤ allocation_limit }
-    requires stress_fits { (k : ℕ) → get_or shares.now.stress k 0 ≤ allocation_limit }
+    requires volume_fits { AtMost shares.now.volume allocation_limit }
+    requires margin_fits { AtMost shares.now.margin allocation_limit }
+    requires stress_fits { AtMost shares.now.stress allocation_limit }
     ensures { result ≡ keep present.now (map (max contribution_floor) (plus shares.now.margin (plus shares.now.stress shares.now.volume))) }
 {
     array::from_fn(|i| requirement(

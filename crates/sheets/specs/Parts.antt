@@ -1,6 +1,7 @@
 -- What the parts of `sheets` promise each other. No rule of document 01 is here.
-use Rattle.std.specs.Prelude.{ℕ, ◌≤◌, List, get_or}
+use Rattle.std.specs.Prelude.{ℕ, ◌≤◌, List}
 use Rattle.lists.specs.Limits.{member_limit, amount_limit}
+use Rattle.lists.specs.Sums.{AtMost}
 use Rattle.sheets.specs.declared.Record.{Record}
 
 -- a member and amounts that are in order
@@ -13,6 +14,6 @@ pub record WithinLimits (r : Record) : Type 0 where
 
 -- every amount of the columns is in order
 pub record AmountsFit (first second third : List ℕ) : Type 0 where
-  pub first_fits : (k : ℕ) → get_or first k 0 ≤ amount_limit
-  pub second_fits : (k : ℕ) → get_or second k 0 ≤ amount_limit
-  pub third_fits : (k : ℕ) → get_or third k 0 ≤ amount_limit
+  pub first_fits : AtMost first amount_limit
+  pub second_fits : AtMost second amount_limit
+  pub third_fits : AtMost third amount_limit

@@ -8,7 +8,7 @@ ghost use Rattle.lists.specs.Limits.{member_limit, sum_limit};
 ghost use Rattle.sheets.specs.Columns.{columns_of};
 ghost use Rattle.cover.specs.Cover.{covered_of};
 ghost use Rattle.sizing.specs.Parts.{funded, judged};
-ghost use Rattle.sizing.specs.Sizing.{fund_refusal, fund_figures, sizing_refusal, sized_of, requirements_after, Says};
+ghost use Rattle.sizing.specs.Sizing.{fund_figures, sizing_refusal, sized_of, requirements_after, Says};
 ghost use Rattle.sizing.specs.Review.{review_due};
 
 use cover::Covered;

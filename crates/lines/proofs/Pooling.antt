@@ -69,16 +69,19 @@ pub record Reading (all left : List (List (List ℕ))) (typed : Typed) : Type 0 
   pub losses : put_all typed.pools.count typed.pools.losses (map loss_typed left) ≡ first_four 0 (map loss_typed all)
   pub ranks : put_all typed.pools.count typed.ranks (map ranks_of_pool left) ≡ first_four missing_ranks (map ranks_of_pool all)
 
-pub reading_starts : (all : List (List (List ℕ))) → Reading all all (record { pools = record { count = 0; losses = 0 ∷ 0 ∷ 0 ∷ 0 ∷ [] }; ranks = no_ranks })
+pub reading_starts : (all : List (List (List ℕ)))
+    → Reading all all (record { pools = record { count = 0; losses = 0 ∷ 0 ∷ 0 ∷ 0 ∷ [] }; ranks = no_ranks })
 reading_starts all =
     record { readable = refl; counted = omega arith; losses = put_four 0 (map loss_typed all); ranks = put_four missing_ranks (map ranks_of_pool all) }
 
 module _ (all : List (List (List ℕ))) (typed : Typed) where
-  pub reading_bad : (p : List (List ℕ)) (ps : List (List (List ℕ))) → Reading all (p ∷ ps) typed → false ≡ is_readable p → false ≡ all_readable all
+  pub reading_bad : (p : List (List ℕ)) (ps : List (List (List ℕ)))
+      → Reading all (p ∷ ps) typed → false ≡ is_readable p → false ≡ all_readable all
   reading_bad p ps i h = ap (λ b. b && all_readable ps) h ∙ i.readable
 
   pub reading_on : (p : List (List ℕ)) (ps : List (List (List ℕ))) → Reading all (p ∷ ps) typed → true ≡ is_readable p
-      → (loss : ℕ) → loss ≡ loss_typed p → (ranks : List ℕ) → ranks ≡ ranks_of_pool p → (next : Typed) → next ≡ added typed loss ranks → Reading all ps next
+      → (loss : ℕ) → loss ≡ loss_typed p → (ranks : List ℕ) → ranks ≡ ranks_of_pool p
+      → (next : Typed) → next ≡ added typed loss ranks → Reading all ps next
   reading_on p ps i h loss e ranks f next g =
       rw (g, e, f) (record {
         readable = ap (λ b. b && all_readable ps) h ∙ i.readable;
@@ -101,3 +104,6 @@ unfolding pools_of
 reading_turn all typed next ws left pool i h known g more e =
     let further : further_pools ws ≡ pools_from more left = known.further ∙ ap (λ m. pools_from m left) e in
     reading_on all typed (to_slash ws) (pools_from more left) (rw (← further) i) h _ known.loss _ known.ranks next g
+
+-- what `read_pools` cites where a pool cannot be used, where a further one follows, and where none does
+pub ruleset reading = (reading_bad, reading_turn, reading_done)

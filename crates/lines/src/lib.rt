@@ -92,6 +92,7 @@ fn added(typed: Typed, pool: Pool) -> Typed
 }
 
 // What follows the member of a default: one pool behind the other.
+#[tactic(auto, using(crate::proofs::Pooling::reading), unfolding(typed_ranks::specs::Pools::pools_of))]
 fn read_pools(words: &mut Words) -> Option<Typed>
     ensures readable { is_some result ≡ all_readable (pools_of words.old) }
     ensures typed { IfSome result (λ typed. typed ≡ typed_in (pools_of words.old)) }

@@ -50,7 +50,8 @@ excess : (v : ℕ) (s : List ℕ) → 2 ^ 64 ≤ v → read_from v s ≡ None
 excess v s h = sym (check-false _ _ _ (rw (le-ltb (value_from v s) (2 ^ 64) (omega (arith, grows v s))) (and-false (all_digits s))) refl)
 
 -- a digit that makes too large a value
-pub full : (s : List ℕ) (v i : ℕ) → i < length s → is_digit (get_or s i 0) ≡ true → 2 ^ 64 ≤ v * 10 + (get_or s i 0 - 48) → read_from v (drop i s) ≡ None
+pub full : (s : List ℕ) (v i : ℕ) → i < length s → is_digit (get_or s i 0) ≡ true
+    → 2 ^ 64 ≤ v * 10 + (get_or s i 0 - 48) → read_from v (drop i s) ≡ None
 full s v i h p k = digit s v i h p ∙ excess _ (drop (i + 1) s) k
 
 -- what `read_number` cites at each of its ways out

@@ -38,7 +38,8 @@ none_in_front : (s : List ℕ) → in_front (drop (prefix_len is_space s) s) ≡
 none_in_front [] = refl
 none_in_front (b ∷ s) = go (b == 32) refl (none_in_front s)
   where
-    go : (x : Bool) → (b == 32) ≡ x → in_front (drop (prefix_len is_space s) s) ≡ false → in_front (drop (cond x (1 + prefix_len is_space s) 0) (b ∷ s)) ≡ false
+    go : (x : Bool) → (b == 32) ≡ x → in_front (drop (prefix_len is_space s) s) ≡ false
+        → in_front (drop (cond x (1 + prefix_len is_space s) 0) (b ∷ s)) ≡ false
     go true e ih = rw drop_one ih
     go false e ih = e
 

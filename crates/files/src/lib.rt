@@ -1,7 +1,7 @@
 // The arguments and the sheet files of the console programs.
 #![tactic(auto)]
 
-ghost use Rattle.std.specs.Prelude.{◌<◌, ◌≤◌, ◌^◌, length, IfOk};
+ghost use Rattle.std.specs.Prelude.{◌<◌, ◌≤◌, ◌^◌, length, IfOk, OnSome};
 ghost use Rattle.std.specs.Option.{IfSome};
 
 use std::env::FillError;
@@ -9,7 +9,7 @@ use std::io::{Eprint, Read};
 use std::rt::{Env, Files};
 use std::{fs, io};
 
-// The system's number for a name that is too long.
+// The system's number for a name that is too long. The kind of error of that name would be told in other words than the system's.
 const NAME_TOO_LONG: i32 = 36;
 
 // Writes a line to standard error: what failed, a colon and the reason.
@@ -45,9 +45,25 @@ pub fn number_at(rt: &impl Env, i: usize) -> Option<u64>
     numbers::read_number(&word[..n])
 }
 
-/// Reads to the end, or until the room is used up. Answers how many bytes there are. (`read_exact` fails at the end, and `read_to_end` asks for memory.)
-pub fn read_all(file: &mut impl Read, room: &mut [u8]) -> io::Result<usize>
-    ensures { IfOk result (λ n. n ≤ length room.old) }
+/// The last `N` of the program's arguments as numbers, where it was started with `count`, its own name among them, and each of these is a number.
+pub fn numbers<const N: usize>(rt: &impl Env, count: usize) -> Option<[u64; N]>
+    ensures { OnSome result (N ≤ count) }
+{
+    if arg_count(rt) != count {
+        return None;
+    }
+    let first = count.checked_sub(N)?;
+    let mut numbers = [0; N];
+    for (place, number) in numbers.iter_mut().enumerate() {
+        *number = number_at(rt, first + place)?;
+    }
+    Some(numbers)
+}
+
+/// Reads to the end, or until the room is used up. Answers the part of the room that is filled. (`read_exact` fails at the end, and `read_to_end` asks
+/// for memory.)
+pub fn read_all<'a>(file: &mut impl Read, room: &'a mut [u8]) -> io::Result<&'a [u8]>
+    ensures { IfOk result (λ filled. length filled.now ≤ length room.old) }
 {
     let mut done = 0;
     while done < room.len() {
@@ -57,12 +73,12 @@ pub fn read_all(file: &mut impl Read, room: &mut [u8]) -> io::Result<usize>
         }
         done += n;
     }
-    Ok(done)
+    Ok(&room[..done])
 }
 
 // A name that is no text names no file.
-fn read_named(rt: &impl Files, name: &[u8], room: &mut [u8]) -> io::Result<usize>
-    ensures { IfOk result (λ n. n ≤ length room.old) }
+fn read_named<'a>(rt: &impl Files, name: &[u8], room: &'a mut [u8]) -> io::Result<&'a [u8]>
+    ensures { IfOk result (λ filled. length filled.now ≤ length room.old) }
 {
     let Ok(path) = str::from_utf8(name) else {
         return Err(io::Error::from(io::ErrorKind::InvalidFilename));
@@ -86,7 +102,7 @@ pub fn read_sheet<'a>(
         return None;
     };
     match read_named(rt, &name[..n], room) {
-        Ok(length) => Some(&room[..length]),
+        Ok(sheet) => Some(sheet),
         Err(why) => {
             fail(rt, &name[..n], why);
             None

@@ -26,6 +26,7 @@ fn put_allocation<const N: usize>(out: &mut Text<N>, a: Allocation)
     ensures bytes { out.new ≡ out.old ++ allocation_text a }
     ensures len { length out.new ≤ length out.old + 200 }
 {
+    // A list of labels and numbers to put in a loop would be as long.
     out.put_labelled(b"accepted fallen ", a.fallen);
     out.put_labelled(b" layers ", a.margin);
     out.put_labelled(b" ", a.contribution);
@@ -60,9 +61,9 @@ fn put_charges<const N: usize>(out: &mut Text<N>, slip: &[u64])
     ensures bytes { out.new ≡ out.old ++ charges_text slip.now 64 }
     ensures len { length out.new ≤ length out.old + 64 * 87 }
 {
-    // By place, since a member's number, charge and call go by it.
-    for i in 0..MEMBER_LIMIT {
-        put_charge(out, i as u64 + 1, slip[i], slip[i + MEMBER_LIMIT]);
+    let (charges, calls) = slip.split_at(MEMBER_LIMIT);
+    for (place, (charge, call)) in charges.iter().zip(calls).enumerate() {
+        put_charge(out, place as u64 + 1, *charge, *call);
     }
 }
 

@@ -16,8 +16,7 @@ pub fn latest_of(latest: Option<Allocation>, reply: Reply) -> Option<Allocation>
 {
     match reply {
         Ok(Some(allocation)) => Some(allocation),
-        Ok(None) => latest,
-        Err(_) => latest,
+        Ok(None) | Err(_) => latest,
     }
 }
 

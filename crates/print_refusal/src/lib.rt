@@ -14,9 +14,8 @@ fn put_record<const N: usize>(out: &mut Text<N>, refusal: Refusal)
     ensures bytes { out.new ≡ out.old ++ record_text refusal }
     ensures len { length out.new ≤ length out.old + 28 }
 {
-    match refusal {
-        Refusal::Record { position, .. } => out.put_labelled(b" record ", position as u64),
-        _ => {}
+    if let Refusal::Record { position, .. } = refusal {
+        out.put_labelled(b" record ", position as u64);
     }
 }
 

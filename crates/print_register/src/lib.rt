@@ -5,18 +5,19 @@ ghost use Rattle.std.specs.Prelude.{◌≡◌, ◌+◌, ◌*◌, ◌≤◌, ◌+
 ghost use Rattle.print_register.specs.Texts.{figures_text, row_text, members_text, register_text};
 
 use figures::Status;
-use lists::MEMBER_LIMIT;
+use lists::LAST_MEMBER;
 use text::Text;
 use waterfall::Register;
 use waterfall::view::MemberView;
 
 // A member's figures, to the end of its row.
-#[tactic(auto, unfolding(crate::specs::Texts::figures_text))]
+#[tactic(auto, using(text::proofs::Putting::put_more), unfolding(crate::specs::Texts::figures_text))]
 fn put_figures<const N: usize>(out: &mut Text<N>, v: MemberView)
     requires { length out.old + 182 ≤ N }
     ensures bytes { out.new ≡ out.old ++ figures_text v }
     ensures len { length out.new ≤ length out.old + 182 }
 {
+    // A list of labels and numbers to put in a loop would be as long.
     out.put_labelled(b" margin ", v.margin);
     out.put_labelled(b" contribution ", v.contribution);
     out.put_labelled(b" requirement ", v.requirement);
@@ -50,8 +51,7 @@ fn put_members<const N: usize>(out: &mut Text<N>, register: &Register)
     ensures bytes { out.new ≡ out.old ++ members_text register.now 64 }
     ensures len { length out.new ≤ length out.old + 64 * 219 }
 {
-    for place in 0..MEMBER_LIMIT {
-        let number = place as u64 + 1;
+    for number in 1..=LAST_MEMBER {
         put_row(out, number, register.member(number));
     }
 }

@@ -16,6 +16,7 @@ fn put_figures<const N: usize>(out: &mut Text<N>, s: Sized)
     ensures bytes { out.new ≡ out.old ++ figures_text s }
     ensures len { length out.new ≤ length out.old + 200 }
 {
+    // A list of labels and numbers to put in a loop would be as long.
     out.put_labelled(b"accepted C ", s.cover);
     out.put_labelled(b" W ", s.weak);
     out.put_labelled(b" A ", s.target);

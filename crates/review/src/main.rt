@@ -3,15 +3,6 @@
 
 use std::io;
 use std::io::Print;
-use std::rt::Env;
-
-// C and A, where these are the arguments.
-fn arguments(rt: &impl Env) -> Option<(u64, u64)> {
-    if files::arg_count(rt) != 3 {
-        return None;
-    }
-    Some((files::number_at(rt, 1)?, files::number_at(rt, 2)?))
-}
 
 fn answer(rt: &impl Print, due: bool) -> io::Result<()> {
     if due {
@@ -21,10 +12,11 @@ fn answer(rt: &impl Print, due: bool) -> io::Result<()> {
 }
 
 fn main(rt: HostRuntime) {
-    let Some((cover, target)) = arguments(&rt) else {
+    let Some(numbers) = files::numbers::<2>(&rt, 3) else {
         let _ = eprintln!(&rt; "usage: review C A");
         return;
     };
+    let [cover, target] = numbers;
     if let Err(why) = answer(&rt, sizing::review_due(cover, target)) {
         let _ = eprintln!(&rt; "standard output: {why}");
     }

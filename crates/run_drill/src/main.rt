@@ -19,12 +19,11 @@ use print_refusal::put_opening;
 use print_register::put_register;
 use std::io;
 use std::io::{Eprint, Input, Print};
-use std::rt::Env;
 use text::Text;
 use waterfall::{Allocation, Register};
 use words::Unreadable;
 
-// No answer is longer.
+// No answer is longer. Room for one is made before a line is taken, and the answer uses it up: that it is there is no fact of the drill's type.
 const ANSWER_ROOM: usize = 16384;
 
 // A drill: its register as it stands, the latest default, ranks and slip of the latest call, and the answers that are not written yet.
@@ -95,7 +94,7 @@ impl Drill {
         }
     }
 
-    // Takes the lines of the input. No input has more lines than the turns.
+    // Takes the lines of the input. No input has more lines than the turns. (make_sheet has a loop like it, which writes nothing.)
     fn run(&mut self, rt: &(impl Input + Print + Eprint)) -> io::Result<()> {
         let mut lines = Lines::new();
         for _turn in 0..u64::MAX {
@@ -117,19 +116,12 @@ impl Drill {
     }
 }
 
-// G, where it is the second of two arguments.
-fn arguments(rt: &impl Env) -> Option<u64> {
-    if files::arg_count(rt) != 3 {
-        return None;
-    }
-    files::number_at(rt, 2)
-}
-
 fn main(rt: HostRuntime) {
-    let Some(own) = arguments(&rt) else {
+    let Some(numbers) = files::numbers::<1>(&rt, 3) else {
         let _ = eprintln!(&rt; "usage: run_drill REGISTER G");
         return;
     };
+    let [own] = numbers;
     let mut room = [0; MEMBER_ROOM];
     let Some(sheet) = files::read_sheet(&rt, 1, &mut room) else {
         return;

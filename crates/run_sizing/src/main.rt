@@ -1,20 +1,12 @@
 // Sizes the fund from a stress sheet and a shares sheet.
 #![tactic(auto)]
 
-use files::{number_at, read_sheet};
+use files::{numbers, read_sheet};
 use lists::{MEMBER_ROOM, STRESS_ROOM};
 use std::io;
 use std::io::{Eprint, Print};
 use std::rt::{Env, Files};
 use text::Text;
-
-// P and V, where four arguments are given.
-fn arguments(rt: &impl Env) -> Option<(u64, u64)> {
-    if files::arg_count(rt) != 5 {
-        return None;
-    }
-    Some((number_at(rt, 3)?, number_at(rt, 4)?))
-}
 
 fn size(
     rt: &impl Print,
@@ -45,10 +37,10 @@ fn read_and_size(rt: &(impl Env + Files + Print + Eprint), prevailing: u64, avai
 }
 
 fn main(rt: HostRuntime) {
-    match arguments(&rt) {
-        Some((prevailing, available)) => read_and_size(&rt, prevailing, available),
-        None => {
-            let _ = eprintln!(&rt; "usage: run_sizing STRESS SHARES P V");
-        }
-    }
+    let Some(numbers) = numbers::<2>(&rt, 5) else {
+        let _ = eprintln!(&rt; "usage: run_sizing STRESS SHARES P V");
+        return;
+    };
+    let [prevailing, available] = numbers;
+    read_and_size(&rt, prevailing, available);
 }

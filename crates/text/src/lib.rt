@@ -1,26 +1,24 @@
 // A text of bounded length, to which bytes and numbers are put one behind the other. What is printed is put by functions, and not by Display: `write!`
-// answers a Result, and a text whose room is asked for cannot fail.
+// answers a Result, and a text whose room is asked for cannot fail. How long a text may be is a number in its own contract, which no other function names.
 #![tactic(auto)]
 
-ghost use Rattle.std.specs.Prelude.{◌≡◌, ℕ, ◌+◌, ◌<◌, ◌≤◌, ◌==◌, List, [], ◌∷◌, ◌++◌, length, take};
+ghost use Rattle.std.specs.Prelude.{◌≡◌, ℕ, ◌+◌, ◌≤◌, ◌==◌, List, [], ◌++◌, length};
 ghost use Rattle.numbers.specs.Numbers.{decimal_of, labelled};
 
+use arrayvec::ArrayVec;
 use itoa::Buffer;
 use std::marker::Model;
 
-/// A text of at most `N` bytes. A clause sees the bytes put so far.
+/// A text of at most `N` bytes. A clause sees the bytes put so far, and asks for the room that a vector of the kit would answer an error for.
 #[derive(Drop)]
 pub struct Text<const N: usize> {
-    bytes: [u8; N],
-    len: usize,
+    bytes: ArrayVec<u8, N>,
 }
 
 impl<const N: usize> Model for Text<N> {
     ghost Value = { List ℕ };
 
-    ghost view = { λ t. take t.len t.bytes };
-
-    ghost invariant = { λ t. t.len ≤ N };
+    ghost view = { λ t. t.bytes.items };
 }
 
 impl<const N: usize> Text<N> {
@@ -29,8 +27,7 @@ impl<const N: usize> Text<N> {
         ensures { result ≡ [] }
     {
         Text {
-            bytes: [0; N],
-            len: 0,
+            bytes: ArrayVec::new(),
         }
     }
 
@@ -39,37 +36,28 @@ impl<const N: usize> Text<N> {
         ensures bytes { result ≡ length self.now }
         ensures fits { result ≤ N }
     {
-        self.len
+        self.bytes.len()
     }
 
     /// Whether nothing was put.
     pub fn is_empty(&self) -> bool
         ensures { result ≡ (length self.now == 0) }
     {
-        self.len == 0
+        self.bytes.is_empty()
     }
 
     /// The bytes that were put.
     pub fn as_bytes(&self) -> &[u8]
         ensures { result.now ≡ self.now }
     {
-        &self.bytes[..self.len]
+        self.bytes.as_slice()
     }
 
     /// Starts again with nothing.
     pub fn clear(&mut self)
         ensures { self.new ≡ [] }
     {
-        self.len = 0;
-    }
-
-    /// Puts one byte behind the others.
-    pub fn push(&mut self, byte: u8)
-        requires { length self.old < N }
-        ensures { self.new ≡ self.old ++ byte ∷ [] }
-    {
-        self.bytes[self.len] = byte;
-        self.len += 1;
+        self.bytes.clear();
     }
 
     /// Puts bytes behind the others.
@@ -78,10 +66,8 @@ impl<const N: usize> Text<N> {
         ensures bytes { self.new ≡ self.old ++ text.now }
         ensures len { length self.new ≡ length self.old + length text.now }
     {
-        let end = self.len + text.len();
-        let bytes = &mut self.bytes[..];
-        bytes[self.len..end].copy_from_slice(text);
-        self.len = end;
+        // It is not refused, since there is room.
+        let _ = self.bytes.try_extend_from_slice(text);
     }
 
     /// Puts the digits of a number.

@@ -132,6 +132,7 @@ impl Ranked<'_> {
 impl Margin {
     // What the rank gives, shared over its members' weights: the shares, and whether one comes out above its weight. Where the rank gives nothing,
     // nothing is split.
+    #[tactic(auto, using(crate::proofs::Parts::unshared, crate::proofs::Parts::shares_asked, crate::proofs::Laws::length_at))]
     fn share(self, ranked: &Ranked) -> ([u64; 64], bool)
         requires { Shared self (at_rank self.rank ranked.now.weights.now ranked.now.ranks.now) }
         ensures shares_are { result.0 ≡ split_of self.part (at_rank self.rank ranked.now.weights.now ranked.now.ranks.now) }
@@ -147,6 +148,7 @@ impl Margin {
     }
 
     // The ranks above are charged whole: their weights are added to the charges. Where they have nothing, nothing is added.
+    #[tactic(auto, using(lists::proofs::Sums::plus_none, crate::proofs::Parts::length_above))]
     fn charge_above(self, ranked: &Ranked, charges: &mut [u64; 64])
         requires above_is { self.total - self.part ≡ total (above_rank self.rank ranked.now.weights.now ranked.now.ranks.now) }
         requires charges_fit { AtMost charges.old allocation_limit }
@@ -160,6 +162,7 @@ impl Margin {
 }
 
 // `sum` charged to `weights` by rank. The total needs no second addition: it is the sum, less what no rank could give.
+#[tactic(auto, using(crate::proofs::Parts::charging))]
 pub fn charge_by_rank(sum: u64, weights: &[u32; 64], ranks: &[u8; 64]) -> Charged
     requires moderate { sum ≤ allocation_limit }
     requires weighed { Weighed weights.now ranks.now }

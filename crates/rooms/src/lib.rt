@@ -25,7 +25,7 @@ pub struct Shared {
     pub shares: [u64; 64],
     pub total: u64,
     pub left: u64,
-    // A second answer: the shares and their total are right either way.
+    // A flag, and no Result: the shares and their total are promised either way, and an error would carry neither.
     pub over: bool,
 }
 

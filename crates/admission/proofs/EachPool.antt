@@ -34,6 +34,8 @@ pub first-losses : (pools : Pools) → pools.count ≤ length pools.losses → t
 first-losses pools h =
     fill_by_all (loss_of pools) (take pools.count pools.losses) pools.count 0 (length-take-le pools.count pools.losses h) (λ k l. get_or-take pools.count pools.losses k 0 l)
 
+pub ruleset counted = (first-losses)
+
 -- where no loss is above its limit, each has it, and their sum its own
 pub losses_fit : (losses : List ℕ) → excessive_losses losses ≡ false → (k : ℕ) → get_or losses k 0 ≤ sum_limit
 losses_fit [] e k = zero-le

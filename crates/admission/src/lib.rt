@@ -26,6 +26,7 @@ pub struct Pools {
 
 impl Pools {
     /// The losses of the pools that are named.
+    #[tactic(auto, using(crate::proofs::EachPool::counted))]
     pub fn losses(&self) -> &[u64]
         requires { self.now.count ≤ pool_limit }
         ensures value { result.now ≡ losses_of self.now }

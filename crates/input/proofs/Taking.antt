@@ -3,7 +3,7 @@ use Rattle.std.proofs.Common.{ℕ, ◌+◌, ◌-◌, ◌≤◌, ◌≡◌, ◌�
 use Rattle.std.specs.Io.{StartsWith}
 use Rattle.std.proofs.lemmas.List.{take_min, drop-take, drop-drop, drop_min}
 use lib.Seq.{take-take}
-use Rattle.words.specs.Bytes.{part}
+use Rattle.input.specs.Lines.{part}
 
 -- what stands behind a line and its newline, where the last line may have none
 pub behind : (bytes : List ℕ) (from have n : ℕ) → have ≤ length bytes → from + n ≤ have
@@ -18,6 +18,10 @@ behind bytes from have n fits within =
     ap (λ i. take left (drop i bytes)) start ∙ ap (take left) (sym (drop-drop gone from bytes)) ∙ sym (drop-take gone left (drop from bytes))
     ∙ ap (λ i. drop gone (take i (drop from bytes))) all ∙ ap (λ i. drop i rest) long ∙ drop_min (n + 1) rest
 
+-- the line itself
+pub line : (bytes : List ℕ) (from have n : ℕ) → from + n ≤ have → take n (drop from bytes) ≡ take n (part bytes from have)
+line bytes from have n within = sym (take-take n (have - from) (drop from bytes) (omega arith))
+
 -- what was read of a line stays: the bytes that are kept are moved to the front, and read behind
 pub kept_stays : (old front new : List ℕ) (from have limit kept end : ℕ) → have ≤ length old → kept ≡ min (have - from) limit → kept ≤ end
     → take kept front ≡ take kept (drop from old) → take kept new ≡ take kept front → StartsWith (part new 0 end) (take limit (part old from have))
@@ -28,3 +32,6 @@ kept_stays old front new from have limit kept end within e h closed same =
     let begin : take limit rest ≡ take kept (drop from old) =
     sym (take_min limit rest) ∙ ap (λ n. take n rest) here ∙ take-take kept (have - from) (drop from old) (omega arith) in
     ap (λ n. take n (part new 0 end)) long ∙ take-take kept (end - 0) new (omega arith) ∙ same ∙ closed ∙ sym begin
+
+-- what `next` cites
+pub ruleset taking = (behind, line)

@@ -7,10 +7,12 @@ ghost use Rattle.std.specs.Io.{StartsWith};
 ghost use Rattle.std.specs.Io.BufRead.{Rests};
 ghost use Rattle.std.specs.Borrow.{sem};
 ghost use Rattle.std.specs.List.{position};
-ghost use Rattle.input.specs.Lines.{length_of, left_of, number_after, IsNext};
+ghost use Rattle.input.specs.Lines.{part, length_of, IsNext};
+ghost use Rattle.input.specs.Reading.{has_ended, kept_of, IsBehind};
 ghost use Rattle.std.specs.Option.{IfSome};
 
 use std::io::{self, Eprint, Input, Read};
+use std::marker::Model;
 use words::{Unreadable, find};
 
 /// A line may be so many bytes long. A longer one is unreadable as a whole.
@@ -27,24 +29,21 @@ pub enum State {
 }
 
 impl State {
-    ghost use Rattle.input.specs.Rest.{has_ended};
-
     // Whether there is no more to read.
     fn has_ended(self) -> bool
         ensures { result ≡ has_ended self }
     {
-        match self {
-            State::Open => false,
-            State::Ended | State::Failed => true,
-        }
+        self != State::Open
     }
 }
 
-// How long the line is that the bytes begin with, where they have its end. A last line may have no newline.
-fn line_length(bytes: &[u8], ended: bool) -> Option<usize>
-    ensures value { result ≡ length_of ended bytes.now }
-    ensures within { IfSome result (λ n. n ≤ length bytes.now) }
+// How long the line is that begins at `from`, where its end is read. A last line may have no newline.
+fn line_length(bytes: &[u8], from: usize, have: usize, ended: bool) -> Option<usize>
+    requires { (from ≤ have) × (have ≤ length bytes.now) }
+    ensures value { result ≡ length_of ended (part bytes.now from have) }
+    ensures within { IfSome result (λ n. from + n ≤ have) }
 {
+    let bytes = &bytes[from..have];
     match find(bytes, b'\n') {
         None if ended && !bytes.is_empty() => Some(bytes.len()),
         found => found,
@@ -76,7 +75,8 @@ fn part_at(bytes: &[u8], from: usize, count: usize) -> &[u8]
     &bytes[from..from + count]
 }
 
-/// The lines of an input: the bytes from `from` to `have` are read and still to be taken, and begin a line.
+/// The lines of an input. (std's `lines` asks for memory.) The bytes from `from` to `have` are read and still to be taken, and begin a line.
+// (Two places, since a struct cannot hold a slice of its own bytes.)
 #[derive(Drop)]
 pub struct Lines {
     bytes: [u8; ROOM],
@@ -84,16 +84,27 @@ pub struct Lines {
     have: usize,
     number: u64,
     state: State,
-    ghost in_bytes: { (from ≤ have) × (have ≤ 65536) },
+}
+
+impl Model for Lines {
+    ghost use Rattle.std.specs.Prelude.{◌≤◌};
+    ghost use Rattle.input.specs.Reading.{Reading};
+
+    ghost Value = { Reading };
+
+    ghost use Rattle.input.specs.Rest.{reading_of};
+
+    ghost view = { reading_of };
+
+    ghost invariant = { λ lines. (lines.from ≤ lines.have) × (lines.have ≤ 65536) };
 }
 
 impl Lines {
-    ghost use Rattle.input.specs.Rest.{rest_of, kept_of, has_ended, IsBehind};
     ghost use Rattle.input.specs.contracts.Lines.{the_row};
 
     /// An input of which nothing is read yet.
     pub fn new() -> Self
-        ensures nothing_read { rest_of result ≡ [] }
+        ensures nothing_read { result.rest ≡ [] }
         ensures first_line { result.number ≡ 1 }
     {
         Lines {
@@ -119,29 +130,16 @@ impl Lines {
         self.state
     }
 
-    // Goes behind the next line and its newline, where its end is there, and counts it. Gives how long the line is.
-    #[tactic(auto, using(crate::proofs::Taking::behind))]
-    fn step(&mut self) -> Option<usize>
-        ensures length { result ≡ length_of (has_ended self.old.state) (rest_of self.old) }
-        ensures within { IfSome result (λ n. self.old.from + n ≤ self.old.have) }
-        ensures left { rest_of self.new ≡ left_of result (rest_of self.old) }
-        ensures counted { self.new.number ≡ number_after result self.old.number }
-        ensures same_state { self.new.state ≡ self.old.state }
-        ensures same_bytes { self.new.bytes ≡ self.old.bytes }
-    {
-        let length = line_length(&self.bytes[self.from..self.have], self.state.has_ended())?;
-        self.from = self.have.min(self.from + length + 1);
-        self.number = self.number.saturating_add(1);
-        Some(length)
-    }
-
     /// Takes the next line, where its end is there.
+    #[tactic(auto, using(crate::proofs::Taking::taking))]
     pub fn next(&mut self) -> Option<Result<&[u8], Unreadable>>
-        ensures line { IsNext (length_of (has_ended self.old.state) (rest_of self.old)) (rest_of self.old) result }
-        ensures* leaves { sem 𝓛 (Rests the_row self.entry (λ new. IsBehind (length_of (has_ended self.old.state) (rest_of self.old)) self.old new)) }
+        ensures line { IsNext (length_of (has_ended self.old.state) self.old.rest) self.old.rest result }
+        ensures* leaves { sem 𝓛 (Rests the_row self.entry (λ new. IsBehind (length_of (has_ended self.old.state) self.old.rest) self.old new)) }
     {
         let from = self.from;
-        let length = self.step()?;
+        let length = line_length(&self.bytes, from, self.have, self.state.has_ended())?;
+        self.from = self.have.min(self.from + length + 1);
+        self.number = self.number.saturating_add(1);
         if LINE_LIMIT < length {
             return Some(Err(Unreadable));
         }
@@ -151,8 +149,8 @@ impl Lines {
     /// Reads on behind the bytes that are there. Of a line that is too long already, one byte more than it may have stands for the whole.
     pub fn read_on(&mut self, rt: &(impl Input + Eprint))
         ensures same_line { self.new.number ≡ self.old.number }
-        ensures kept { StartsWith (rest_of self.new) (kept_of self.old) }
-        ensures more_or_ended { has_ended self.new.state ≡ false → min (length (rest_of self.old)) 4097 < length (rest_of self.new) }
+        ensures kept { StartsWith self.new.rest (kept_of self.old) }
+        ensures more_or_ended { has_ended self.new.state ≡ false → min (length self.old.rest) 4097 < length self.new.rest }
     {
         let kept = (self.have - self.from).min(LINE_LIMIT + 1);
         close_up(&mut self.bytes, self.from, kept);

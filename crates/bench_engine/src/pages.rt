@@ -1,9 +1,10 @@
 // Repeated pages for the wall.
 use bench_defaults::fold::fold;
+use page::PAGE_LENGTH;
 use waterfall::Allocation;
 
 // The amounts rise a little with the turn, so that no turn is like the one before.
-fn once(turn: u64, page: &mut [u8; 328]) {
+fn once(turn: u64, page: &mut [u8; PAGE_LENGTH]) {
     let more = turn % 8;
     let _ = page::print(
         Allocation {
@@ -21,12 +22,12 @@ fn once(turn: u64, page: &mut [u8; 328]) {
 }
 
 // One byte stands for the page, another one each turn, so that all have to be there.
-fn fold_page(sum: u64, page: &[u8; 328], turn: u64) -> u64 {
-    fold(sum, u64::from(page[(turn % 328) as usize]))
+fn fold_page(sum: u64, page: &[u8; PAGE_LENGTH], turn: u64) -> u64 {
+    fold(sum, u64::from(page[turn as usize % PAGE_LENGTH]))
 }
 
 pub fn run(turns: u64) -> u64 {
-    let mut page = [0; 328];
+    let mut page = [0; PAGE_LENGTH];
     let mut sum = 0;
     for turn in 0..turns {
         once(turn, &mut page);

@@ -1,6 +1,7 @@
 // Repeated sizings of the fund.
 use bench_defaults::fold::fold;
 use files::read_sheet;
+use lists::{MEMBER_ROOM, STRESS_ROOM};
 use refusal::Refusal;
 use sizing::{Sized, size};
 use std::io::Eprint;
@@ -44,8 +45,8 @@ fn accepted(stress: &[u8], shares: &[u8]) -> bool {
 }
 
 pub fn run(rt: &(impl Env + Files + Eprint), turns: u64) -> u64 {
-    let mut stress_room = [0; 65552];
-    let mut shares_room = [0; 1040];
+    let mut stress_room = [0; STRESS_ROOM];
+    let mut shares_room = [0; MEMBER_ROOM];
     let stress = read_sheet(rt, 3, &mut stress_room).unwrap_or(b"");
     let shares = read_sheet(rt, 4, &mut shares_room).unwrap_or(b"");
     if accepted(stress, shares) {

@@ -67,34 +67,33 @@ fn drill_call(call: DrillCall) -> Called {
 // What a line calls, by its words behind the label.
 fn read_called(words: &[u8]) -> Option<Called> {
     let name = words.split(|b| *b == b' ').nth(1)?;
-    let n = numbers(words);
-    match name {
-        b"size" => Some(Called::Size {
-            prevailing: n[0],
-            available: n[1],
-            slip: n[2] as usize,
+    match (name, numbers(words)) {
+        (b"size", [prevailing, available, slip, ..]) => Some(Called::Size {
+            prevailing,
+            available,
+            slip: slip as usize,
         }),
-        b"open" => Some(Called::Open { own: n[0] }),
-        b"default" => Some(Called::Drill {
-            call: DrillCall::Default {
-                member: n[0],
-                pools: Pools {
-                    count: n[1] as usize,
-                    losses: [n[2], n[3], n[4], n[5]],
+        (b"open", [own, ..]) => Some(Called::Open { own }),
+        (b"default", [member, count, first, second, third, fourth, ranks, slip]) => {
+            Some(Called::Drill {
+                call: DrillCall::Default {
+                    member,
+                    pools: Pools {
+                        count: count as usize,
+                        losses: [first, second, third, fourth],
+                    },
                 },
-            },
-            ranks: n[6] as usize,
-            slip: n[7] as usize,
-        }),
-        b"payment" => Some(drill_call(DrillCall::Payment {
-            member: n[0],
-            amount: n[1],
-        })),
-        b"replenishment" => Some(drill_call(DrillCall::Replenishment {
-            member: n[0],
-            amount: n[1],
-        })),
-        b"close" => Some(drill_call(DrillCall::Close)),
+                ranks: ranks as usize,
+                slip: slip as usize,
+            })
+        }
+        (b"payment", [member, amount, ..]) => {
+            Some(drill_call(DrillCall::Payment { member, amount }))
+        }
+        (b"replenishment", [member, amount, ..]) => {
+            Some(drill_call(DrillCall::Replenishment { member, amount }))
+        }
+        (b"close", _) => Some(drill_call(DrillCall::Close)),
         _ => None,
     }
 }
@@ -114,11 +113,8 @@ pub fn read_case(line: &[u8]) -> Option<Case<'_>>
 
 // The value of a hexadecimal digit.
 fn digit(byte: &u8) -> Option<u8> {
-    match *byte {
-        b'0'..=b'9' => Some(*byte - b'0'),
-        b'a'..=b'f' => Some(*byte - b'a' + 10),
-        _ => None,
-    }
+    let value = char::from(*byte).to_digit(16)?;
+    Some(value as u8)
 }
 
 /// The bytes that pairs of hexadecimal digits say, in the front of the room.

@@ -22,10 +22,7 @@ pub fn review_due(cover: u64, target: u64) -> bool
 fn number_of(refusal: Option<Refusal>) -> u8
     ensures { result ≡ refused_number refusal }
 {
-    match refusal {
-        Some(refusal) => refusal.number(),
-        None => 0,
-    }
+    refusal.map_or(0, Refusal::number)
 }
 
 // "For a register sheet and G it is given the refusal number alone, 0 if accepted." An empty sheet is refused with 1 before a byte of it is read: C may

@@ -18,38 +18,52 @@ fn add(sheet: &mut Text<STRESS_ROOM>, record: Record) {
     }
 }
 
-// Reads the lines to their end. Answers whether each is read; where one is not, there is a word on standard error.
-fn read_lines(rt: &(impl Input + Eprint), kind: Kind, sheet: &mut Text<STRESS_ROOM>) -> bool {
+// Adds what a line says. Where it is unreadable there is a word on standard error.
+fn take(
+    rt: &impl Eprint,
+    kind: Kind,
+    number: u64,
+    line: Result<&[u8], Unreadable>,
+    sheet: &mut Text<STRESS_ROOM>,
+) -> Option<()> {
+    match line.and_then(|line| read_row(kind, line)) {
+        Ok(Some(record)) => add(sheet, record),
+        Ok(None) => {}
+        Err(Unreadable) => {
+            let _ = eprintln!(rt; "unreadable line {number}");
+            return None;
+        }
+    }
+    Some(())
+}
+
+// The sheet of the lines, where all are read. No input has more lines than the turns. (run_drill has a loop like it, and writes before each read; one
+// function for both would be handed what is done with a line and what before a read.)
+fn read_lines(rt: &(impl Input + Eprint), kind: Kind) -> Option<Text<STRESS_ROOM>> {
+    let mut sheet = Text::new();
     let mut lines = Lines::new();
-    for _ in 0..u64::MAX {
+    for _turn in 0..u64::MAX {
         let number = lines.number();
-        let Some(line) = lines.next() else {
-            if lines.state() == State::Ended {
-                return true;
-            }
-            lines.read_on(rt);
-            if lines.state() == State::Failed {
-                return false;
-            }
-            continue;
-        };
-        match line.and_then(|line| read_row(kind, line)) {
-            Ok(Some(record)) => add(sheet, record),
-            Ok(None) => {}
-            Err(Unreadable) => {
-                let _ = eprintln!(rt; "unreadable line {number}");
-                return false;
+        match lines.next() {
+            Some(line) => take(rt, kind, number, line, &mut sheet)?,
+            None => {
+                if lines.state() == State::Ended {
+                    return Some(sheet);
+                }
+                lines.read_on(rt);
+                if lines.state() == State::Failed {
+                    return None;
+                }
             }
         }
     }
-    false
+    None
 }
 
 fn make(rt: &(impl Input + Print + Eprint), kind: Kind) {
-    let mut sheet = Text::new();
-    if !read_lines(rt, kind, &mut sheet) {
+    let Some(sheet) = read_lines(rt, kind) else {
         return;
-    }
+    };
     if let Err(why) = rt.write_all(sheet.as_bytes()) {
         let _ = eprintln!(rt; "standard output: {why}");
     }

@@ -4,38 +4,19 @@
 use admission::Pools;
 use drill::in_place::{close, declare, pay, replenish};
 use lists::MISSING_RANK;
+use output::write_out;
+use print_answers::put_reply;
 use rows::Record;
 use std::io::Print;
+use text::Text;
 use waterfall::opening::open;
-use waterfall::{Allocation, Register, Reply};
+use waterfall::{Register, Reply};
 
-fn allocated(rt: &impl Print, allocation: Allocation) {
-    let Allocation {
-        fallen,
-        margin,
-        contribution,
-        tranche1,
-        members,
-        tranche2,
-        calls,
-        short,
-    } = allocation;
-    let _ = println!(rt;
-        "accepted fallen {fallen} layers {margin} {contribution} {tranche1} {members} {tranche2} {calls} short {short}"
-    );
-}
-
-// What a call answered.
+// What a call answered, without the charges and calls of a slip.
 fn tell(rt: &impl Print, reply: Reply) {
-    match reply {
-        Err(refusal) => {
-            let _ = println!(rt; "refused {}", refusal.number());
-        }
-        Ok(None) => {
-            let _ = println!(rt; "accepted");
-        }
-        Ok(Some(allocation)) => allocated(rt, allocation),
-    }
+    let mut text = Text::<8192>::new();
+    put_reply(&mut text, reply, &[0; 128]);
+    let _ = write_out(rt, &mut text);
 }
 
 // What the register shows of a member.

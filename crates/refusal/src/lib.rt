@@ -53,7 +53,7 @@ impl Fault {
 }
 
 impl Refusal {
-    /// The number that the papers give it.
+    /// The number that the papers give it. No `From<Refusal> for u8`: the number is printed, and `into` would hide which one.
     pub fn number(self) -> u8
         ensures { result ≡ number_of self }
     {

@@ -28,10 +28,10 @@ const LENT: [u64; 130] = [7; 130];
 
 // Says what was answered, and where a refusal altered what it was lent.
 fn say(rt: &impl Print, label: &[u8], refusal: Option<Refusal>, kept: bool) {
-    let (number, position) = match refusal {
-        Some(refusal) => (refusal.number(), refusal.position()),
-        None => (0, 0),
-    };
+    let (number, position) = refusal.map_or(
+        (0, 0),
+        |refusal| (refusal.number(), refusal.position()),
+    );
     if !label.is_empty() {
         let _ = rt.write_all(label);
         let _ = println!(rt; ": {number} {position}");
@@ -131,6 +131,6 @@ fn run_all(rt: &impl Print, cases: &[u8]) {
 
 fn main(rt: HostRuntime) {
     let mut room = [0; 65536];
-    let length = read_all(&mut rt.reader(), &mut room).unwrap_or(0);
-    run_all(&rt, &room[..length]);
+    let cases = read_all(&mut rt.reader(), &mut room).unwrap_or(b"");
+    run_all(&rt, cases);
 }

@@ -22,16 +22,20 @@ behind bytes from have n fits within =
 pub line : (bytes : List ℕ) (from have n : ℕ) → from + n ≤ have → take n (drop from bytes) ≡ take n (part bytes from have)
 line bytes from have n within = sym (take-take n (have - from) (drop from bytes) (omega arith))
 
--- what was read of a line stays: the bytes that are kept are moved to the front, and read behind
-pub kept_stays : (old front new : List ℕ) (from have limit kept end : ℕ) → have ≤ length old → kept ≡ min (have - from) limit → kept ≤ end
-    → take kept front ≡ take kept (drop from old) → take kept new ≡ take kept front → StartsWith (part new 0 end) (take limit (part old from have))
-kept_stays old front new from have limit kept end within e h closed same =
+-- what is kept is moved to the front: the line, or as much of it as may be kept
+pub kept_front : (old front : List ℕ) (from have kept : ℕ) → have ≤ length old → kept ≡ min (have - from) 4097
+    → take kept front ≡ take kept (drop from old) → take kept front ≡ take 4097 (part old from have)
+kept_front old front from have kept within e moved =
     let rest = part old from have in
-    let here : min limit (length rest) ≡ kept = omega (arith, length-take (have - from) (drop from old), length-drop from old) in
-    let long : length (take limit rest) ≡ kept = length-take limit rest ∙ here in
-    let begin : take limit rest ≡ take kept (drop from old) =
-    sym (take_min limit rest) ∙ ap (λ n. take n rest) here ∙ take-take kept (have - from) (drop from old) (omega arith) in
-    ap (λ n. take n (part new 0 end)) long ∙ take-take kept (end - 0) new (omega arith) ∙ same ∙ closed ∙ sym begin
+    let here : min 4097 (length rest) ≡ kept = omega (arith, length-take (have - from) (drop from old), length-drop from old) in
+    moved ∙ sym (sym (take_min 4097 rest) ∙ ap (λ n. take n rest) here ∙ take-take kept (have - from) (drop from old) (omega arith))
+
+-- and stays there, however much is read behind it
+pub stays : (front new kept_bytes : List ℕ) (kept end : ℕ) → kept ≤ length front → kept ≤ end → take kept front ≡ kept_bytes → take kept new ≡ take kept front
+    → StartsWith (part new 0 end) kept_bytes
+stays front new kept_bytes kept end within e there same =
+    let long : length (take kept front) ≡ kept = omega (arith, length-take kept front) in
+    rw (← there) (ap (λ n. take n (part new 0 end)) long ∙ take-take kept (end - 0) new (omega arith) ∙ same)
 
 -- what `next` cites
 pub ruleset taking = (behind, line)

@@ -1,7 +1,7 @@
 // The lines of standard input, taken one by one.
 #![tactic(auto)]
 
-ghost use Rattle.std.specs.Prelude.{◌≡◌, ◌==◌, ◌+◌, ◌<◌, ◌≤◌, [], false, min, length, take, drop};
+ghost use Rattle.std.specs.Prelude.{◌≡◌, ◌==◌, ◌+◌, ◌-◌, ◌<◌, ◌≤◌, [], false, min, length, take, drop};
 ghost use Rattle.std.specs.Result.{IfOk};
 ghost use Rattle.std.specs.Io.{StartsWith};
 ghost use Rattle.std.specs.Io.BufRead.{Rests};
@@ -56,6 +56,18 @@ fn close_up(bytes: &mut [u8], from: usize, count: usize)
     ensures { take count bytes.new ≡ take count (drop from bytes.old) }
 {
     bytes.copy_within(from..from + count, 0);
+}
+
+// Moves the line that begins at `from` to the front, and gives how much of it is kept: of a line that is too long already, one byte more than it may have.
+#[tactic(auto, using(crate::proofs::Taking::kept_front))]
+fn keep(bytes: &mut [u8], from: usize, have: usize) -> usize
+    requires { (from ≤ have) × (have ≤ length bytes.old) }
+    ensures count { result ≡ min (have - from) 4097 }
+    ensures front { take result bytes.new ≡ take 4097 (part bytes.old from have) }
+{
+    let kept = (have - from).min(LINE_LIMIT + 1);
+    close_up(bytes, from, kept);
+    kept
 }
 
 // Reads behind the bytes that are kept.
@@ -147,13 +159,13 @@ impl Lines {
     }
 
     /// Reads on behind the bytes that are there. Of a line that is too long already, one byte more than it may have stands for the whole.
+    #[tactic(auto, using(crate::proofs::Taking::stays))]
     pub fn read_on(&mut self, rt: &(impl Input + Eprint))
         ensures same_line { self.new.number ≡ self.old.number }
         ensures kept { StartsWith self.new.rest (kept_of self.old) }
         ensures more_or_ended { has_ended self.new.state ≡ false → min (length self.old.rest) 4097 < length self.new.rest }
     {
-        let kept = (self.have - self.from).min(LINE_LIMIT + 1);
-        close_up(&mut self.bytes, self.from, kept);
+        let kept = keep(&mut self.bytes, self.from, self.have);
         self.from = 0;
         self.have = kept;
         match read_behind(&mut rt.reader(), &mut self.bytes, kept) {

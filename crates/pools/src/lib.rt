@@ -16,6 +16,7 @@ use figures::{Status, add_to, of_live, take_from, total};
 use ranks::{Charged, charge_by_rank};
 use rooms::share_rooms;
 use split::share;
+use std::array;
 
 // What is left of the contributions and of the pools' sums once some pools have their portions, what these charge, and its total.
 #[derive(Drop)]
@@ -87,7 +88,14 @@ fn portions_of(left: [u32; 64], sum: u64, rest: u64) -> [u32; 64]
     if sum == rest {
         return left;
     }
-    left.map(|weight| portion(weight, sum, rest))
+    // By index here and in `widened`: by `map`, which proved, a default of four pools took 27,617 instructions, where it took 18,256.
+    array::from_fn(|i| portion(left[i], sum, rest))
+}
+
+fn widened(amounts: &[u32; 64]) -> [u64; 64]
+    ensures { result ≡ amounts.now }
+{
+    array::from_fn(|i| u64::from(amounts[i]))
 }
 
 impl Division {
@@ -101,7 +109,7 @@ impl Division {
         }
         let portions = portions_of(self.left, sum, self.rest);
         let charged = charge_others(status, &portions, sum, ranks);
-        take_from(&mut self.left, &portions.map(u64::from));
+        take_from(&mut self.left, &widened(&portions));
         add_to(&mut self.charges, &charged.charges, charged.total);
         self.rest -= sum;
         self.total += charged.total;
@@ -114,8 +122,9 @@ impl Division {
     {
         let tie = share_rooms(status, contribution, &self.charges, whole - self.total);
         add_to(&mut self.charges, &tie.shares, tie.total);
+        let charges = widened(&self.charges);
         Charged {
-            charges: self.charges.map(u64::from),
+            charges,
             total: self.total + tie.total,
             // The pools' charges and the tie's are within what they are drawn from: their contracts prove it.
             over: false,

@@ -13,7 +13,8 @@ use Rattle.refusal.specs.declared.Refusal.{Refusal}
 use Rattle.admission.specs.Admission.{standing}
 use Rattle.admission.proofs.Passed.{passes, place}
 use Rattle.waterfall.specs.Register.{Register, GivenBack}
-use Rattle.waterfall.specs.Reply.{Layer, layer1, layer2, layer3, layer4, layer5, layer6, allocated, Says, nothing, judged}
+use Rattle.waterfall.specs.Calls.{payment_refusal, payment_of, replenishment_refusal, replenishment_of, close_refusal, close_of}
+use Rattle.waterfall.specs.Reply.{Reply, Layer, layer1, layer2, layer3, layer4, layer5, layer6, allocated, Says, nothing, judged}
 use Rattle.layers.specs.declared.Allocation.{Allocation}
 
 -- a test that is answered by itself, and what is answered by it
@@ -68,6 +69,19 @@ module _ (r next : Register) where
   pub accepted_call : {found : Option Refusal} → found ≡ None → (Ok None ≡ (judged found r None next).reply) × (next ≡ (judged found r None next).register)
   unfolding judged
   accepted_call e = (rw e, rw e)
+
+-- what the replies of the calls say
+pub says_paid : {reply : Reply} (r : Register) (member amount : ℕ) → reply ≡ (payment_of r member amount).reply → Says reply (payment_refusal r member amount) nothing
+unfolding payment_of payment_refusal
+says_paid r member amount e = rw e (says _ _ _ (placeless_standing r member _ (placeless_check _ _ _ refl (tt {0}))))
+
+pub says_replenished : {reply : Reply} (r : Register) (member amount : ℕ) → reply ≡ (replenishment_of r member amount).reply → Says reply (replenishment_refusal r member amount) nothing
+unfolding replenishment_of replenishment_refusal
+says_replenished r member amount e = rw e (says _ _ _ (placeless_standing r member _ (placeless_check _ _ _ refl (tt {0}))))
+
+pub says_closed : {reply : Reply} (r : Register) → reply ≡ (close_of r).reply → Says reply (close_refusal r) nothing
+unfolding close_of close_refusal
+says_closed r e = rw e (says _ _ _ (placeless_check _ _ _ refl (tt {0})))
 
 -- who passes 11, 12 and the refusal of an unfit amount has a place, and a fit amount
 pub record Fit (member : ℕ) (unfit : Bool) : Type 0 where

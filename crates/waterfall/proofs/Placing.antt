@@ -75,9 +75,9 @@ module _ (r : Register) (member : ℕ) (pools : Pools) (ranks slip : List ℕ) w
       (placeless_check _ _ _ refl
       (placeless_check _ _ _ refl (tt {0})))))))
 
-  pub says_pooled : Says (pooled_of r member pools ranks slip).reply (pooled_refusal r member pools ranks slip) (pooled_allocation r member pools ranks)
+  pub says_pooled : {reply : Reply} → reply ≡ (pooled_of r member pools ranks slip).reply → Says reply (pooled_refusal r member pools ranks slip) (pooled_allocation r member pools ranks)
   unfolding pooled_of
-  says_pooled = says-allocated _ _ _ _ placeless
+  says_pooled e = rw e (says-allocated _ _ _ _ placeless)
 
   -- its reply, the register and the slip that it leaves
   pub record Declared (reply : Reply) (next : Register) (left : List ℕ) : Type 0 where

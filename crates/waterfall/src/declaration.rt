@@ -54,6 +54,7 @@ impl Register {
         Ok(Some(placed.allocation))
     }
 
+    // Ranks and slip are in no struct with member and pools: document 01 lends them beside the call.
     pub fn declare(mut self, member: u64, pools: Pools, ranks: &[u8], slip: &mut [u64]) -> Outcome
         ensures value { result ≡ pooled_of self member pools ranks.now slip.old }
         ensures slip_after { slip.new ≡ pooled_slip self member pools ranks.now slip.old }

@@ -13,7 +13,8 @@ pub use layers::Allocation;
 use refusal::Refusal;
 use std::marker::Model;
 
-/// The register. Its fields are private: hosts can make none. A member's figures stand at its number less 1.
+/// The register. Its fields are private: hosts can make none. A member's figures stand at its number less 1: one list for each figure, since a layer takes
+/// a figure of every member, and a sheet gives one.
 #[derive(Clone, Copy, PartialEq, Eq)]
 pub struct Register {
     status: [Status; 64],
@@ -24,7 +25,7 @@ pub struct Register {
     outstanding: [u32; 64],
     // what was called since the last close
     called: [u32; 64],
-    // of our own contribution
+    // of our own contribution: two fields, since each is drawn on in a layer of its own
     tranche1: u64,
     tranche2: u64,
 }
@@ -53,7 +54,8 @@ pub struct Opened {
 /// What a drill call answers: its refusal, or that it is accepted; an accepted default answers its allocation.
 pub type Reply = Result<Option<Allocation>, Refusal>;
 
-/// What a drill call hands back.
+/// What a drill call hands back. A method that takes the register by `&mut` hands back a reply alone, and so promises reply and register in a clause each.
+// The four calls by value have a body each: as one function over a closure, which proved, a default took 4,544 instructions, where it took 4,219.
 #[derive(Clone, Copy, PartialEq, Eq)]
 pub struct Outcome {
     pub reply: Reply,

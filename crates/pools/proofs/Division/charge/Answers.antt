@@ -15,7 +15,7 @@ charge_others-charged-requires-clause-chargeable c =
 
 pub take_from-requires : goal.take_from-requires
 take_from-requires c =
-    can-take c.args.sum c.args.status.now c.args.ranks.now c.args.self.now (omega arith) c.requires _ _ (mapped_as _ _ 0 0 _ _ _ (λ i y p q h k. search rules) (omega arith) c.map.ensures.items) c.portions_of-portions.ensures
+    can-take c.args.sum c.args.status.now c.args.ranks.now c.args.self.now (omega arith) c.requires _ _ c.widened.ensures c.portions_of-portions.ensures
 
 pub add_to-requires-clause-fits : goal.add_to-requires-clause-fits
 add_to-requires-clause-fits c =
@@ -35,4 +35,4 @@ overflow_add-self c =
 pub returns : goal.returns
 returns c =
     let e = c.charge_others-charged.ensures in
-    pool_charged c.args.sum c.args.status.now c.args.ranks.now c.args.self.now (omega arith) c.requires _ _ _ _ _ _ c.portions_of-portions.ensures (mapped_as _ _ 0 0 _ _ _ (λ i y p q h k. search rules) (omega arith) c.map.ensures.items) e.charges_are e.total_is c.take_from.ensures c.add_to.ensures
+    pool_charged c.args.sum c.args.status.now c.args.ranks.now c.args.self.now (omega arith) c.requires _ _ _ _ _ _ c.portions_of-portions.ensures c.widened.ensures e.charges_are e.total_is c.take_from.ensures c.add_to.ensures

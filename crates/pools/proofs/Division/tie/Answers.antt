@@ -17,4 +17,4 @@ add_to-requires-clause-fits c = tie_adds _ c.args.status.now _ c.args.self c.req
 
 pub returns : goal.returns
 returns c =
-    tied_so _ c.args.status.now _ c.args.self c.requires _ _ _ _ c.share_rooms-tie.ensures _ _ c.add_to.ensures (mapped_as _ _ 0 0 _ _ _ (λ i y p q h k. search rules) (omega (arith, ap length c.add_to.ensures, length-plus c.args.self.charges c.share_rooms-tie.result.shares (omega (arith, c.requires.charges_length)), c.requires.charges_length)) c.map.ensures.items)
+    tied_so _ c.args.status.now _ c.args.self c.requires _ _ _ _ c.share_rooms-tie.ensures _ _ c.add_to.ensures c.widened-charges.ensures

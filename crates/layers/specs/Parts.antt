@@ -1,7 +1,7 @@
 -- What the parts of `layers` promise each other and their callers. No rule of document 01 is here.
 use Rattle.std.specs.Prelude.{ℕ, ◌+◌, ◌-◌, ◌*◌, ◌≤◌, ◌<◌, ◌≡◌, Bool, false, ◌||◌, List, length, get_or}
 use Rattle.lists.specs.Limits.{member_limit, pool_limit, amount_limit, allocation_limit}
-use Rattle.lists.specs.Sums.{total, keep}
+use Rattle.lists.specs.Sums.{total, keep, AtMost}
 use Rattle.split.specs.Split.{exceeds}
 use Rattle.figures.specs.declared.Status.{Status}
 use Rattle.figures.specs.Figures.{live_in, figure, replace}
@@ -18,7 +18,7 @@ pub record Pooled (pools : Pools) (status : List Status) (contribution ranks : L
   pub few : pools.count ≤ pool_limit
   pub each_fits : excessive_losses (losses_of pools) ≡ false
   pub ranks_length : length ranks ≡ member_limit * pools.count
-  pub contribution_fits : (k : ℕ) → get_or contribution k 0 ≤ amount_limit
+  pub contribution_fits : AtMost contribution amount_limit
   pub well_ranked : pools_misranked (live_in status) ranks pools.count ≡ false
 
 -- what a default is placed with that 11 to 15, 21 and 22 do not refuse

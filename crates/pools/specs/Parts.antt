@@ -1,7 +1,7 @@
 -- What the parts of `pools` promise each other and their callers. No rule of document 01 is here. Nor is one of request 3.
 use Rattle.std.specs.Prelude.{ℕ, zero, suc, ◌+◌, ◌-◌, ◌*◌, ◌≤◌, ◌<◌, ◌≡◌, Bool, false, List, [], ◌∷◌, map, length, get_or, drop}
 use Rattle.lists.specs.Limits.{member_limit, pool_limit, amount_limit, allocation_limit}
-use Rattle.lists.specs.Sums.{total, plus, minus, keep}
+use Rattle.lists.specs.Sums.{total, plus, minus, keep, AtMost}
 use Rattle.split.specs.Split.{share_of, split_of, exceeds}
 use Rattle.ranks.specs.Ranks.{charges_of}
 use Rattle.ranks.specs.declared.Charged.{Charged}
@@ -22,7 +22,7 @@ pub record Charges (these contribution : List ℕ) (charged : Charged) : Type 0 
 -- what one pool is charged with
 pub record Chargeable (status : List Status) (contribution ranks : List ℕ) : Type 0 where
   pub ranks_length : length ranks ≡ member_limit
-  pub contribution_fits : (k : ℕ) → get_or contribution k 0 ≤ amount_limit
+  pub contribution_fits : AtMost contribution amount_limit
   pub well_ranked : misranked (live_in status) ranks ≡ false
 
 -- what several are charged with: their sums, and the ranks of all
@@ -31,7 +31,7 @@ pub record Poolable (sums : List ℕ) (status : List Status) (contribution ranks
   pub few : length sums ≤ pool_limit
   pub sums_fit : total sums ≤ allocation_limit
   pub ranks_length : length ranks ≡ member_limit * length sums
-  pub contribution_fits : (k : ℕ) → get_or contribution k 0 ≤ amount_limit
+  pub contribution_fits : AtMost contribution amount_limit
   pub well_ranked : pools_misranked (live_in status) ranks (length sums) ≡ false
 
 -- what is left of a weight once the first p pools have their portions of it

@@ -1,5 +1,6 @@
 -- The register: a list of 64 figures of each kind, by member number, and the two tranches.
 use Rattle.std.specs.Prelude.{ℕ, ◌+◌, ◌≤◌, ◌≡◌, List, length, get_or, replicate}
+use Rattle.lists.specs.Sums.{AtMost}
 use Rattle.lists.specs.Limits.{member_limit, amount_limit, sum_limit}
 use Rattle.figures.specs.Figures.{none}
 use Rattle.figures.specs.declared.Status.{Status}
@@ -41,10 +42,10 @@ pub record GivenBack (r : Register) : Type 0 where
   pub cap_length : length r.cap ≡ member_limit
   pub outstanding_length : length r.outstanding ≡ member_limit
   pub called_length : length r.called ≡ member_limit
-  pub margin_fits : (k : ℕ) → get_or r.margin k 0 ≤ amount_limit
+  pub margin_fits : AtMost r.margin amount_limit
   pub contribution_fits : (k : ℕ) → get_or r.contribution k 0 ≤ get_or r.requirement k 0
-  pub requirement_fits : (k : ℕ) → get_or r.requirement k 0 ≤ amount_limit
-  pub cap_fits : (k : ℕ) → get_or r.cap k 0 ≤ amount_limit
+  pub requirement_fits : AtMost r.requirement amount_limit
+  pub cap_fits : AtMost r.cap amount_limit
   pub called_fits : (k : ℕ) → get_or r.called k 0 ≤ get_or r.cap k 0
   pub outstanding_fits : (k : ℕ) → get_or r.outstanding k 0 ≤ get_or r.called k 0
   pub defaulter_owes_none : (k : ℕ) → get_or r.status k Status.Absent ≡ Status.InDefault → get_or r.outstanding k 0 ≡ 0

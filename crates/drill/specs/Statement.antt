@@ -8,7 +8,8 @@ use Rattle.waterfall.specs.Pools.{pool_portions, pool_charges}
 use Rattle.waterfall.specs.Reply.{Layer, layer1, layer2, layer3, layer4, layer5, layer6}
 use Rattle.waterfall.specs.Register.{Register}
 use Rattle.drill.specs.Drill.{Step, Event, trace}
-use Rattle.drill.specs.Counting.{opening_margin, opening_contribution, opening_tranche1, opening_tranche2, sheet_cap, accepted, loss_in, short_in, fallen_in, fallen_by, layer_in, layer_by, charge_on, call_on, paid_by, replenished_by, sum_over, last_register, live_after, called_since}
+use Rattle.drill.specs.Counting.{opening_margin, opening_contribution, opening_tranche1, opening_tranche2, sheet_cap, accepted, loss_in, short_in, fallen_in}
+use Rattle.drill.specs.Counting.{fallen_by, layer_in, layer_by, charge_on, call_on, paid_by, replenished_by, sum_over, last_register, live_after, called_since}
 use Rattle.drill.specs.declared.DrillCall.TheVariants.{Default}
 
 -- the order of layers and ranks, at an accepted default `e` of `member` ---------------------------------------------------------------------
@@ -37,7 +38,8 @@ module _ (Other CalledUp : ℕ → Type 0) (r : Register) (e : Event) (member : 
     pub layer6_charged : 0 < layer_in layer6 e → Empty layer1 × Empty layer2 × Empty layer3 × Empty layer4 × Empty layer5
     pub short : 0 < short_in e → Empty layer1 × Empty layer2 × Empty layer3 × Empty layer4 × Empty layer5 × Empty layer6
     pub by_rank_in_pool : (p : ℕ) → p < pools.count → (m n : ℕ) → 0 < figure (pool_charges r member pools e.ranks p) m → Other n
-        → figure (pool_ranks e.ranks p) m < figure (pool_ranks e.ranks p) n → figure (pool_charges r member pools e.ranks p) n ≡ figure (pool_portions r member pools p) n
+        → figure (pool_ranks e.ranks p) m < figure (pool_ranks e.ranks p) n
+        → figure (pool_charges r member pools e.ranks p) n ≡ figure (pool_portions r member pools p) n
     pub by_rank : pools.count ≡ 1 → (m n : ℕ) → 0 < charge_on m e → Other n → figure e.ranks m < figure e.ranks n → figure e.register.contribution n ≡ 0
 
 -- by what is counted of the sheet, G, the events `before` and the default `e` itself

@@ -2,7 +2,8 @@
 use Rattle.std.specs.Prelude.{ℕ, ◌≡◌, refl, List, [], ◌∷◌, ◌++◌, replicate}
 use Rattle.split.specs.Split.{share_of, split_of}
 use Rattle.ranks.specs.Ranks.{charges_from, charges_of}
-use Rattle.pools.specs.Pools.{losses_after, joined_pool, sums_of, portions_of, charges_in, charges_up_to, charges_together, unmet, still_standing, tied, charges_by_pools}
+use Rattle.pools.specs.Pools.{losses_after, joined_pool, sums_of, portions_of, charges_in, charges_up_to, charges_together}
+use Rattle.pools.specs.Pools.{unmet, still_standing, tied, charges_by_pools}
 
 -- layers 1 to 3 give 6: the fallen call of 5 is met, and 1 of the first loss; they give 2: the 3 that are left of the fallen call join pool 1, pool 2
 -- where pool 1 has no loss, and pool 1 where none has
@@ -37,8 +38,8 @@ last_tie = (refl, refl, refl)
 unfoldable pub unlike : List ℕ
 unlike = (2 ∷ 1 ∷ 1 ∷ replicate 61 0) ++ (1 ∷ 1 ∷ 1 ∷ replicate 61 0)
 
--- sums of 4 and 4 over contributions of 3, 3 and 3: pool 1 meets 3 and pool 2 all of its 4, so that 1, 1 and 0 still stand. The tie goes by no rank: the split of
--- the 1 that is left gives the most junior member of pool 1 nothing of it.
+-- sums of 4 and 4 over contributions of 3, 3 and 3: pool 1 meets 3 and pool 2 all of its 4, so that 1, 1 and 0 still stand. The tie goes by no rank: the
+-- split of the 1 that is left gives the most junior member of pool 1 nothing of it.
 pub tie_by_no-rank : (still_standing (4 ∷ 4 ∷ []) (3 ∷ 3 ∷ 3 ∷ []) unlike ≡ 1 ∷ 1 ∷ 0 ∷ [])
     × (tied (4 ∷ 4 ∷ []) (3 ∷ 3 ∷ 3 ∷ []) unlike ≡ 0 ∷ 1 ∷ 0 ∷ [])
 unfolding unlike tied still_standing unmet charges_together charges_up_to charges_in charges_of charges_from split_of share_of

@@ -1,5 +1,6 @@
 -- Document 01, "Declaring a default": what a default of a member does, layer by layer. Layer 4's charges are those of one pool here, by rank over
--- standing contributions; those of several pools (document 02, request 3), and the default that the calls make, are in Pools.antt. The other layers are the same.
+-- standing contributions; those of several pools (document 02, request 3), and the default that the calls make, are in Pools.antt. The other layers
+-- are the same.
 use Rattle.std.specs.Prelude.{ℕ, ◌+◌, ◌-◌, Bool, ◌||◌, List, ◌++◌, length, drop, Option, Some, None, is_some}
 use Rattle.lists.specs.Checks.{check}
 use Rattle.lists.specs.Limits.{member_limit}
@@ -130,7 +131,10 @@ default_refusal r member loss ranks slip =
 
 unfoldable pub default_of : Register → ℕ → ℕ → List ℕ → List ℕ → Outcome
 default_of r member loss ranks slip =
-    judged (default_refusal r member loss ranks slip) r (Some (allocation_of r member loss (charges r member loss ranks))) (settled_of r member loss (charges r member loss ranks))
+    judged (default_refusal r member loss ranks slip) r (Some (allocation_of r member loss (charges r member loss ranks)))
+    (settled_of r member loss (charges r member loss ranks))
 
 unfoldable pub default_slip : Register → ℕ → ℕ → List ℕ → List ℕ → List ℕ
-default_slip r member loss ranks slip = check (is_some (default_refusal r member loss ranks slip)) slip (slip_of r member loss (charges r member loss ranks) slip)
+default_slip r member loss ranks slip =
+    check (is_some (default_refusal r member loss ranks slip)) slip
+    (slip_of r member loss (charges r member loss ranks) slip)

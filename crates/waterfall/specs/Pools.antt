@@ -7,7 +7,8 @@ use Rattle.refusal.specs.declared.Refusal.{Refusal}
 use Rattle.admission.specs.Admission.{loss_of, losses_of, pools_admission}
 use Rattle.admission.specs.declared.Pools.{Pools}
 use Rattle.pools.specs.Pools.{sums_of, portions_of, charges_in, charges_by_pools}
-use Rattle.waterfall.specs.Default.{fallen_call, standing_of, on_margin, on_contribution, on_tranche1, allocation_of, settled_of, overdrawn, slip_of, default_of, default_slip}
+use Rattle.waterfall.specs.Default.{fallen_call, standing_of, on_margin, on_contribution, on_tranche1, allocation_of, settled_of}
+use Rattle.waterfall.specs.Default.{overdrawn, slip_of, default_of, default_slip}
 use Rattle.waterfall.specs.Register.{Register}
 use Rattle.waterfall.specs.Reply.{judged}
 use Rattle.layers.specs.declared.Allocation.{Allocation}

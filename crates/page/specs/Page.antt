@@ -74,4 +74,5 @@ page_left a page = check (is_some (page_refusal a (length page))) page (page_of 
 -- may print alike": theorem `no_two_alike` in proofs/Theorem.antt.
 abbrev pub PrintAlike : Allocation → List ℕ → Allocation → List ℕ → Type 0
 PrintAlike a page b other =
-    (page_refusal a (length page) ≡ None) × (page_refusal b (length other) ≡ None) × (take page_length (page_left a page) ≡ take page_length (page_left b other))
+    (page_refusal a (length page) ≡ None) × (page_refusal b (length other) ≡ None)
+    × (take page_length (page_left a page) ≡ take page_length (page_left b other))

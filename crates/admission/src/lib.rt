@@ -153,7 +153,8 @@ fn unfit(amount: u64, most: u64) -> bool
     (amount == 0) | (most < amount)
 }
 
-// 11, 12, and the refusal of an unfit amount, 16 or 17: the first that holds.
+// 11, 12, and the refusal of an unfit amount, 16 or 17: the first that holds. The amount, its most and its refusal are no struct: each call has its own,
+// and it would be taken apart at once.
 #[tactic(auto, unfolding(lists::specs::Checks::check))]
 pub fn amount_admission(
     status: &[Status; 64],

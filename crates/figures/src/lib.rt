@@ -151,7 +151,8 @@ pub fn statuses(present: [bool; 64]) -> [Status; 64]
     present.map(Status::from)
 }
 
-// What a list has of each live member; of everyone else, `nothing`.
+// What a list has of each live member; of everyone else, `nothing`. The list is a slice, for the ranks of one pool are read as they are lent, and no array
+// is made of them.
 pub fn of_live<T: Copy>(status: &[Status; 64], values: &[T], nothing: T) -> [T; 64]
     requires { length values.now ≡ member_limit }
     ensures { result ≡ of_live nothing status.now values.now }

@@ -18,7 +18,7 @@ pub fn share(left: u64, weight: u64, rest: u64) -> u64
 }
 
 // `sum` shared over `weights`, whose total is `whole`: callers have it, so it is not added up again. The answer is whether a share comes out
-// above its weight.
+// above its weight: a flag, and no Result, for the shares are promised either way, and fund sizing leaves it unread.
 pub fn split(sum: u64, whole: u64, weights: &[u64], shares: &mut [u64]) -> bool
     requires { Splits sum whole weights.now shares.old }
     ensures shares_after { shares.new ≡ split_of sum weights.now }

@@ -68,6 +68,7 @@ impl Ranked<'_> {
     fn totals(&self) -> [u64; RANKS]
         ensures { Totals result self.now.weights.now self.now.ranks.now }
     {
+        // Both are copied first: the checker follows no slice that is lent through a field which is a reference.
         let weights = self.weights;
         let ranks = self.ranks;
         let mut totals = [0u64; RANKS];

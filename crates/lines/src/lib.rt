@@ -76,11 +76,10 @@ struct Typed {
 }
 
 // One pool more. A fifth pool and more have no places. (A method that changes `self` is not proved: it learns no array's length where it writes none.)
-fn added(typed: Typed, pool: Pool) -> Typed
+fn added(mut typed: Typed, pool: Pool) -> Typed
     requires { typed.pools.count + 1 < 2 ^ 64 }
     ensures { result ≡ added typed pool.loss pool.ranks }
 {
-    let mut typed = typed;
     let count = typed.pools.count;
     if count < POOL_LIMIT {
         typed.pools.losses[count] = pool.loss;

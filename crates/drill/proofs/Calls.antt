@@ -12,7 +12,8 @@ use Rattle.figures.specs.Figures.{figure, status_at}
 use Rattle.figures.specs.declared.Status.{Status}
 use Rattle.waterfall.specs.Register.{Register, GivenBack}
 use Rattle.waterfall.specs.Reply.{judged}
-use Rattle.waterfall.specs.Calls.{paid_of, payment_refusal, payment_of, replenished_of, replenishment_refusal, replenishment_of, closed_of, close_refusal, close_of}
+use Rattle.waterfall.specs.Calls.{paid_of, payment_refusal, payment_of, replenished_of, replenishment_refusal, replenishment_of, closed_of, close_refusal}
+use Rattle.waterfall.specs.Calls.{close_of}
 use Rattle.waterfall.specs.declared.Outcome.{Outcome}
 use Rattle.figures.proofs.Figures.{replaced_at, figure-none}
 use Rattle.waterfall.proofs.Answer.{fit, within_bound}
@@ -57,7 +58,8 @@ module _ (r : Register) (g : GivenBack r) (call : DrillCall) (ranks slip : List 
       }
 
   -- a call that is judged, and allocates nothing
-  judged_laws : (refusal : Option Refusal) (next : Register) → (refusal ≡ None → Lawful (record { reply = Ok None; register = next })) → Lawful (judged refusal r None next)
+  judged_laws : (refusal : Option Refusal) (next : Register) → (refusal ≡ None → Lawful (record { reply = Ok None; register = next }))
+      → Lawful (judged refusal r None next)
   unfolding judged
   judged_laws (Some refusal) next past = refused_laws refusal
   judged_laws None next past = past refl
@@ -89,7 +91,8 @@ module _ (r : Register) (g : GivenBack r) (call : DrillCall) (ranks slip : List 
         ordered = λ m l q t. absurd (false≢true (sym other ∙ ap is_default q));
       }
 
-pub payment_laws : (r : Register) → GivenBack r → (who amount : ℕ) (ranks slip : List ℕ) → StepLaws r (seen (Payment who amount) ranks (payment_of r who amount) slip)
+pub payment_laws : (r : Register) → GivenBack r → (who amount : ℕ) (ranks slip : List ℕ)
+    → StepLaws r (seen (Payment who amount) ranks (payment_of r who amount) slip)
 unfolding payment_of payment_refusal paid_of
 payment_laws r g who amount ranks slip =
     judged_laws r g (Payment who amount) ranks slip (payment_refusal r who amount) (paid_of r who amount) (λ e.
@@ -97,17 +100,20 @@ payment_laws r g who amount ranks slip =
     let h : amount ≤ figure r.outstanding who = within_bound amount _ _ k.fits in
     accepted_laws r g (Payment who amount) ranks slip (paid_of r who amount) (given-paid r g who amount) refl refl (refl, refl, refl, refl, refl)
     (λ m. omega arith)
-    (λ m. replaced_at 0 (λ b old new. old ≡ cond b amount 0 + new) r.outstanding who m _ k.least (omega (arith, k, g.outstanding_length)) (omega arith) (λ y. omega arith))
+    (λ m. replaced_at 0 (λ b old new. old ≡ cond b amount 0 + new) r.outstanding who m _ k.least (omega (arith, k, g.outstanding_length))
+    (omega arith) (λ y. omega arith))
     (λ m. refl))
 
-pub replenishment_laws : (r : Register) → GivenBack r → (who amount : ℕ) (ranks slip : List ℕ) → StepLaws r (seen (Replenishment who amount) ranks (replenishment_of r who amount) slip)
+pub replenishment_laws : (r : Register) → GivenBack r → (who amount : ℕ) (ranks slip : List ℕ)
+    → StepLaws r (seen (Replenishment who amount) ranks (replenishment_of r who amount) slip)
 unfolding replenishment_of replenishment_refusal replenished_of
 replenishment_laws r g who amount ranks slip =
     judged_laws r g (Replenishment who amount) ranks slip (replenishment_refusal r who amount) (replenished_of r who amount) (λ e.
     let k = fit r who Refusal.UnfitReplenishment _ g e in
     accepted_laws r g (Replenishment who amount) ranks slip (replenished_of r who amount)
     (given-replenished r g who amount (within_bound amount _ _ k.fits)) refl refl (refl, refl, refl, refl, refl)
-    (λ m. replaced_at 0 (λ b old new. old + cond b amount 0 ≡ new) r.contribution who m _ k.least (omega (arith, k, g.contribution_length)) refl (λ y. omega arith))
+    (λ m. replaced_at 0 (λ b old new. old + cond b amount 0 ≡ new) r.contribution who m _ k.least (omega (arith, k, g.contribution_length)) refl
+    (λ y. omega arith))
     (λ m. omega arith)
     (λ m. refl))
 
@@ -115,5 +121,6 @@ pub close_laws : (r : Register) → GivenBack r → (ranks slip : List ℕ) → 
 unfolding close_of close_refusal closed_of
 close_laws r g ranks slip =
     judged_laws r g Close ranks slip (close_refusal r) (closed_of r) (λ e.
-    accepted_laws r g Close ranks slip (closed_of r) (given-closed r g (ltb-false _ _ (check_past _ _ _ (λ q. cc) e).0)) refl refl (refl, refl, refl, refl, refl)
+    accepted_laws r g Close ranks slip (closed_of r) (given-closed r g (ltb-false _ _ (check_past _ _ _ (λ q. cc) e).0)) refl refl
+    (refl, refl, refl, refl, refl)
     (λ m. omega arith) (λ m. omega arith) figure-none)

@@ -19,10 +19,12 @@ use Rattle.waterfall.specs.Reply.{judged}
 use Rattle.waterfall.specs.Default.{fallen_call, on_margin, on_contribution, calls, after1, after2, after3, after4, after5, allocation_of, settled_of, slip_of}
 use Rattle.waterfall.specs.Pools.{loss_together, pooled_charges, pooled_allocation, pooled_refusal, pooled_of, pooled_slip}
 use Rattle.admission.proofs.Admitted.{PoolsAdmitted, pools_admitted}
-use Rattle.waterfall.proofs.Default.{Layer4, placed, margin-gives, contribution-gives, tranche1-gives, tranche2-gives, charges-within, left2, left3, left4, left5, left6}
+use Rattle.waterfall.proofs.Default.{Layer4, placed, margin-gives, contribution-gives, tranche1-gives, tranche2-gives, charges-within, left2, left3, left4}
+use Rattle.waterfall.proofs.Default.{left5, left6}
 use Rattle.figures.proofs.Figures.{same_member, other_member, replaced_at, figure-plus, figure-le, by-member}
 use Rattle.waterfall.proofs.Given.{given-settled, length-calls}
-use Rattle.drill.proofs.Order.{layer4, defaulter_known, settled-contribution, settled_other, defaulter_uncharged, empty1, empty2, empty3, empty4, empty5, empty6, ranked_other, by_rank_in_pool, by_rank}
+use Rattle.drill.proofs.Order.{layer4, defaulter_known, settled-contribution, settled_other, defaulter_uncharged, empty1, empty2, empty3, empty4, empty5}
+use Rattle.drill.proofs.Order.{empty6, ranked_other, by_rank_in_pool, by_rank}
 use Rattle.drill.specs.Drill.{Event}
 use Rattle.drill.specs.declared.DrillCall.TheVariants.{Default}
 use Rattle.drill.proofs.Laws.{StepLaws, Ordered}
@@ -62,7 +64,8 @@ module _ (r : Register) (g : GivenBack r) (member : ℕ) (pools : Pools) (ranks 
       ∙ take_at calling _ member_limit (length-calls r g member loss (pooled_charges r member pools ranks))
 
   event : Event
-  event = seen (Default member pools) ranks (record { reply = Ok (Some (pooled_allocation r member pools ranks)); register = settled_of r member loss (pooled_charges r member pools ranks) }) left
+  event = seen (Default member pools) ranks (record
+      { reply = Ok (Some (pooled_allocation r member pools ranks)); register = settled_of r member loss (pooled_charges r member pools ranks) }) left
 
   -- where something is left after a layer, something was left before it, and the layer is empty
   up2 : 0 < after2 r member loss → 0 < after1 r member loss
@@ -102,13 +105,16 @@ module _ (r : Register) (g : GivenBack r) (member : ℕ) (pools : Pools) (ranks 
             let h3 : 0 < after3 r member loss = omega (arith, left4 r member loss (pooled_charges r member pools ranks) known4) in
             (e1 (up2 (up3 h3)), e2 (up3 h3), e3 h3);
         layer5_charged = λ h.
-            let h4 : 0 < after4 r member loss (pooled_charges r member pools ranks) = omega (arith, left5 r member loss (pooled_charges r member pools ranks)) in
+            let h4 : 0 < after4 r member loss (pooled_charges r member pools ranks) = omega
+            (arith, left5 r member loss (pooled_charges r member pools ranks)) in
             (e1 (up2 (up3 (up4 h4))), e2 (up3 (up4 h4)), e3 (up4 h4), e4 h4);
         layer6_charged = λ h.
-            let h5 : 0 < after5 r member loss (pooled_charges r member pools ranks) = omega (arith, left6 r member loss (pooled_charges r member pools ranks)) in
+            let h5 : 0 < after5 r member loss (pooled_charges r member pools ranks) = omega
+            (arith, left6 r member loss (pooled_charges r member pools ranks)) in
             (e1 (up2 (up3 (up4 (up5 h5)))), e2 (up3 (up4 (up5 h5))), e3 (up4 (up5 h5)), e4 (up5 h5), e5 h5);
         short = λ h.
-            let h5 : 0 < after5 r member loss (pooled_charges r member pools ranks) = omega (arith, left6 r member loss (pooled_charges r member pools ranks)) in
+            let h5 : 0 < after5 r member loss (pooled_charges r member pools ranks) = omega
+            (arith, left6 r member loss (pooled_charges r member pools ranks)) in
             (e1 (up2 (up3 (up4 (up5 h5)))), e2 (up3 (up4 (up5 h5))), e3 (up4 (up5 h5)), e4 (up5 h5), e5 h5, e6 h);
         by_rank_in_pool = by_rank_in_pool r g member pools ranks slip a;
         by_rank = λ one m n p. by_rank r g member pools ranks slip a one m n (rw charges_on at p);
@@ -128,7 +134,9 @@ module _ (r : Register) (g : GivenBack r) (member : ℕ) (pools : Pools) (ranks 
             replaced_at 0 (λ b old new. old ≡ new + cond b (on_margin r member loss) 0) r.margin member m _ k.0 (omega (arith, k, g.margin_length))
             (omega (arith, margin-gives r member loss (pooled_charges r member pools ranks))) (λ y. omega arith);
         contribution = λ m.
-            by-member (λ b. figure r.contribution m + 0 ≡ figure (settled_of r member loss (pooled_charges r member pools ranks)).contribution m + cond b (on_contribution r member loss) 0 + figure (take member_limit left) m) member m
+            by-member (λ b. figure r.contribution m + 0 ≡ figure
+            (settled_of r member loss (pooled_charges r member pools ranks)).contribution m + cond b (on_contribution r member loss) 0 + figure
+            (take member_limit left) m) member m
             (λ e.
             omega (
               arith,
@@ -150,7 +158,8 @@ module _ (r : Register) (g : GivenBack r) (member : ℕ) (pools : Pools) (ranks 
         tranche1 = omega (arith, tranche1-gives r member loss (pooled_charges r member pools ranks));
         tranche2 = omega (arith, tranche2-gives r member loss (pooled_charges r member pools ranks));
         calls = λ m.
-            by-member (λ b. figure (take member_limit (drop member_limit left)) m + figure r.outstanding m ≡ 0 + figure (settled_of r member loss (pooled_charges r member pools ranks)).outstanding m + cond b (fallen_call r member) 0) member m
+            by-member (λ b. figure (take member_limit (drop member_limit left)) m + figure r.outstanding m ≡ 0 + figure
+            (settled_of r member loss (pooled_charges r member pools ranks)).outstanding m + cond b (fallen_call r member) 0) member m
             (λ e.
             omega (
               arith,
@@ -168,7 +177,9 @@ module _ (r : Register) (g : GivenBack r) (member : ℕ) (pools : Pools) (ranks 
             ));
         called = λ m. omega (arith, call m, figure-plus r.called (calls r member loss (pooled_charges r member pools ranks)) m);
         stays-live = λ m s q. other_member Status.Absent r.status member m Status.InDefault k.0 (eqb-false member m q) ∙ s;
-        stays_in-default = λ m s. replaced_at Status.Absent (λ b old new. old ≡ Status.InDefault → new ≡ Status.InDefault) r.status member m Status.InDefault k.0 (omega (arith, k, g.status_length)) (λ _. refl) (λ y e. e) s;
+        stays_in-default = λ m s. replaced_at Status.Absent
+            (λ b old new. old ≡ Status.InDefault → new ≡ Status.InDefault) r.status member m Status.InDefault k.0 (omega (arith, k, g.status_length))
+            (λ _. refl) (λ y e. e) s;
         in-default = λ m l q t. same_member Status.Absent r.status member m Status.InDefault k.0 (omega (arith, k, g.status_length)) (sym (named q).0);
         ranked = λ m l q t. rw ((named q).0, (named q).1) (ranked_other r g member pools ranks slip a);
         ordered = λ m l q t. rw ((named q).0, (named q).1) allocated_ordered;
@@ -177,7 +188,8 @@ module _ (r : Register) (g : GivenBack r) (member : ℕ) (pools : Pools) (ranks 
       named : {m : ℕ} {l : Pools} → Default member pools ≡ Default m l → (m ≡ member) × (l ≡ pools)
       named q = (cc, cc)
 
-admitted_by : (r : Register) (member : ℕ) (pools : Pools) (ranks slip : List ℕ) → pooled_refusal r member pools ranks slip ≡ None → PoolsAdmitted r.status member pools ranks (length slip)
+admitted_by : (r : Register) (member : ℕ) (pools : Pools) (ranks slip : List ℕ) → pooled_refusal r member pools ranks slip ≡ None
+    → PoolsAdmitted r.status member pools ranks (length slip)
 unfolding pooled_refusal
 admitted_by r member pools ranks slip z = pools_admitted r.status member pools ranks (length slip) _ z
 

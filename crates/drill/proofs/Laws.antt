@@ -10,7 +10,8 @@ use Rattle.admission.specs.declared.Pools.{Pools}
 use Rattle.waterfall.specs.Register.{Register, GivenBack}
 use Rattle.waterfall.specs.Reply.{layer1, layer2, layer3, layer4, layer5, layer6}
 use Rattle.drill.specs.Drill.{Event}
-use Rattle.drill.specs.Counting.{accepted, defaults, is_close, loss_in, short_in, fallen_in, fallen_by, layer_in, layer_by, charge_on, call_on, paid_by, replenished_by}
+use Rattle.drill.specs.Counting.{accepted, defaults, is_close, loss_in, short_in, fallen_in, fallen_by, layer_in, layer_by, charge_on, call_on, paid_by}
+use Rattle.drill.specs.Counting.{replenished_by}
 use Rattle.drill.specs.Statement.{InOrder}
 use Rattle.drill.specs.declared.DrillCall.TheVariants.{Default}
 
@@ -23,7 +24,8 @@ module _ (r : Register) (e : Event) (member : ℕ) (pools : Pools) where
   Ordered = InOrder Other (λ n. figure e.register.called n ≡ figure e.register.cap n) r e member pools
 
 -- the order by others that are among those, and are called up where those are
-pub in_order : {Other Among CalledUp Full : ℕ → Type 0} (r : Register) (e : Event) (member : ℕ) (pools : Pools) → ((n : ℕ) → Among n → Other n) → ((n : ℕ) → CalledUp n → Full n)
+pub in_order : {Other Among CalledUp Full : ℕ → Type 0} (r : Register) (e : Event) (member : ℕ) (pools : Pools) → ((n : ℕ) → Among n → Other n)
+    → ((n : ℕ) → CalledUp n → Full n)
     → InOrder Other CalledUp r e member pools → InOrder Among Full r e member pools
 in_order r e member pools other full o =
     record {
@@ -42,7 +44,8 @@ in_order r e member pools other full o =
 pub record StepLaws (r : Register) (e : Event) : Type 0 where
   pub given : GivenBack e.register
   pub cap_stays : e.register.cap ≡ r.cap
-  pub placed : layer_in layer1 e + layer_in layer2 e + layer_in layer3 e + layer_in layer4 e + layer_in layer5 e + layer_in layer6 e + short_in e ≡ loss_in e + fallen_in e
+  pub placed : layer_in layer1 e + layer_in layer2 e + layer_in layer3 e + layer_in layer4 e + layer_in layer5 e + layer_in layer6 e + short_in
+      e ≡ loss_in e + fallen_in e
   pub margin : (m : ℕ) → figure r.margin m ≡ figure e.register.margin m + layer_by layer1 m e
   pub contribution : (m : ℕ) → figure r.contribution m + replenished_by m e ≡ figure e.register.contribution m + layer_by layer2 m e + charge_on m e
   pub tranche1 : r.tranche1 ≡ e.register.tranche1 + layer_in layer3 e

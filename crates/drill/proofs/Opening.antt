@@ -24,7 +24,8 @@ use Rattle.waterfall.specs.Register.{Register, empty_register}
 use Rattle.waterfall.specs.Opening.{tranche1_of, tranche2_of, opening_register, opening_refusal, opened_of}
 use Rattle.figures.proofs.Figures.{other_member, replaced_at, figure-none}
 use Rattle.waterfall.proofs.Entered.{accepts}
-use Rattle.drill.specs.Counting.{opening_accepted, figures_from, in_sheet, named, opening_sum, opening_margin, opening_contribution, sheet_cap, opening_tranche1, opening_tranche2}
+use Rattle.drill.specs.Counting.{opening_accepted, figures_from, in_sheet, named, opening_sum, opening_margin, opening_contribution, sheet_cap}
+use Rattle.drill.specs.Counting.{opening_tranche1, opening_tranche2}
 
 -- a list of figures with those of n records put in, from record i on
 put : (List ℕ → ℕ) → ℕ → List ℕ → ℕ → List ℕ → List ℕ
@@ -53,7 +54,8 @@ put-figure f m (suc n) sheet i last xs l z q =
     let next : (k : ℕ) → w < k → figure (replace xs w (f s)) k ≡ 0 =
     λ k h. other_member 0 xs w k (f s) o.within.member_least (λ e. omega arith) ∙ z k (omega (arith, o.rises)) in
     let entered : figure (replace xs w (f s)) m ≡ figure xs m + cond (eqb w m) (f s) 0 =
-    replaced_at 0 (λ b old new. new ≡ old + cond b (f s) 0) xs w m (f s) o.within.member_least (omega (arith, o.within.member_most)) (omega (arith, z w o.rises)) (λ y. omega arith) in
+    replaced_at 0 (λ b old new. new ≡ old + cond b (f s) 0) xs w m (f s) o.within.member_least (omega (arith, o.within.member_most))
+    (omega (arith, z w o.rises)) (λ y. omega arith) in
     omega (
       arith,
       entered,
@@ -93,7 +95,8 @@ module _ (sheet : List ℕ) (g : ℕ) (ok : opening_refusal sheet g ≡ None) wh
         put-figure f m (record_count sheet) sheet 0 0 none refl (λ k h. figure-none k) all-accepted,
       )
 
-  list-opened : (list : Columns → List ℕ) (f : List ℕ → ℕ) → ((c : Columns) (s : List ℕ) → list (entered c (record_of s)) ≡ replace (list c) (member_at s) (f s)) → list no_columns ≡ none
+  list-opened : (list : Columns → List ℕ) (f : List ℕ → ℕ)
+      → ((c : Columns) (s : List ℕ) → list (entered c (record_of s)) ≡ replace (list c) (member_at s) (f s)) → list no_columns ≡ none
       → (m : ℕ) → figure (list (columns_of sheet)) m ≡ in_sheet f sheet m
   unfolding columns_of
   list-opened list f h e m =

@@ -17,7 +17,8 @@ use Rattle.admission.specs.declared.Pools.{Pools}
 use Rattle.figures.specs.Figures.{is_live, figure, status_at, replace, others}
 use Rattle.figures.specs.declared.Status.{Status}
 use Rattle.waterfall.specs.Register.{Register, GivenBack}
-use Rattle.waterfall.specs.Default.{standing_of, rooms_of, on_margin, after1, on_contribution, after2, after3, charges, after4, after5, calls, shortfall, settled_of}
+use Rattle.waterfall.specs.Default.{standing_of, rooms_of, on_margin, after1, on_contribution, after2, after3, charges, after4, after5, calls, shortfall}
+use Rattle.waterfall.specs.Default.{settled_of}
 use Rattle.waterfall.specs.Pools.{loss_together, pool_sums, pool_portions, pool_charges, pooled_charges}
 use Rattle.admission.proofs.Admitted.{Admitted, PoolsAdmitted, admitted_one}
 use Rattle.admission.proofs.EachPool.{length_pool-ranks, pool_well-ranked}
@@ -29,7 +30,8 @@ use Rattle.waterfall.proofs.Pooled.{pooled_layer4}
 use Rattle.figures.proofs.Figures.{place_of, same_member, other_member, live_at, figure-plus, figure-minus}
 
 -- one pool: a charge by rank takes juniors first
-juniors_charged : (r : Register) (member loss : ℕ) (ranks : List ℕ) (i j : ℕ) → 0 < get_or (charges r member loss ranks) i 0 → get_or ranks i 0 < get_or ranks j 0 → get_or ranks j 0 ≤ rank_limit
+juniors_charged : (r : Register) (member loss : ℕ) (ranks : List ℕ) (i j : ℕ) → 0 < get_or (charges r member loss ranks) i 0
+    → get_or ranks i 0 < get_or ranks j 0 → get_or ranks j 0 ≤ rank_limit
     → get_or (charges r member loss ranks) j 0 ≡ get_or (standing_of r member) j 0
 unfolding charges
 juniors_charged r member loss ranks i j = juniors-first (after3 r member loss) (standing_of r member) ranks i j
@@ -59,7 +61,8 @@ module _ (r : Register) (g : GivenBack r) (member : ℕ) (pools : Pools) (ranks 
   marked : (n : ℕ) → status_at r.status n ≡ Status.Live → (member ≡ n → ⊥) → (k : ℕ) → n ≡ suc k → get_or (others r.status member) k false ≡ true
   marked n s d k e =
       live_at (replace r.status member Status.InDefault) k
-      ∙ ap is_live (sym (ap (status_at (replace r.status member Status.InDefault)) e) ∙ other_member Status.Absent r.status member n Status.InDefault defaulter_known.0 d ∙ s)
+      ∙ ap is_live (sym (ap (status_at (replace r.status member Status.InDefault)) e)
+      ∙ other_member Status.Absent r.status member n Status.InDefault defaulter_known.0 d ∙ s)
 
   -- the figures of the settled register ------------------------------------------
 
@@ -70,7 +73,8 @@ module _ (r : Register) (g : GivenBack r) (member : ℕ) (pools : Pools) (ranks 
       omega (
         arith,
         figure-minus own charged member,
-        same_member 0 r.contribution member member (figure r.contribution member - on_contribution r member loss) defaulter_known.0 (omega (arith, defaulter_known, g.contribution_length)) refl,
+        same_member 0 r.contribution member member (figure r.contribution member - on_contribution r member loss) defaulter_known.0
+            (omega (arith, defaulter_known, g.contribution_length)) refl,
       )
 
   pub settled_other : (n : ℕ) → (member ≡ n → ⊥) → figure after.contribution n ≡ figure r.contribution n - figure charged n
@@ -156,7 +160,8 @@ module _ (r : Register) (g : GivenBack r) (member : ℕ) (pools : Pools) (ranks 
       )
 
   -- within a pool a member is charged only where every more junior one is charged its whole portion
-  pub by_rank_in_pool : (p : ℕ) → p < pools.count → (m n : ℕ) → 0 < figure (pool_charges r member pools ranks p) m → Other n → figure (pool_ranks ranks p) m < figure (pool_ranks ranks p) n
+  pub by_rank_in_pool : (p : ℕ) → p < pools.count → (m n : ℕ) → 0 < figure (pool_charges r member pools ranks p) m → Other n
+      → figure (pool_ranks ranks p) m < figure (pool_ranks ranks p) n
       → figure (pool_charges r member pools ranks p) n ≡ figure (pool_portions r member pools p) n
   unfolding pool_charges pool_portions
   by_rank_in_pool p b zero n c o h = absurd (omega arith)
@@ -183,10 +188,12 @@ module _ (r : Register) (g : GivenBack r) (member : ℕ) (pools : Pools) (ranks 
         omega (
           arith,
           settled_other (suc j) (λ e. o.1 (sym e)),
-          whole i j (omega (arith, ap (λ (xs : List ℕ). get_or xs i 0) by_its-ranks)) h (omega (arith, (ranked_other 0 (omega (arith, one)) (suc j) o).1, own (suc j))),
+          whole i j (omega (arith, ap (λ (xs : List ℕ). get_or xs i 0) by_its-ranks)) h
+              (omega (arith, (ranked_other 0 (omega (arith, one)) (suc j) o).1, own (suc j))),
           ap (λ (xs : List ℕ). get_or xs j 0) by_its-ranks,
           weight (suc j) o,
         )
       where
-        whole : (i j : ℕ) → 0 < get_or (charges r member (loss_of pools 0) ranks) i 0 → get_or ranks i 0 < get_or ranks j 0 → get_or ranks j 0 ≤ rank_limit → get_or (charges r member (loss_of pools 0) ranks) j 0 ≡ get_or (standing_of r member) j 0
+        whole : (i j : ℕ) → 0 < get_or (charges r member (loss_of pools 0) ranks) i 0 → get_or ranks i 0 < get_or ranks j 0
+            → get_or ranks j 0 ≤ rank_limit → get_or (charges r member (loss_of pools 0) ranks) j 0 ≡ get_or (standing_of r member) j 0
         whole = juniors_charged r member (loss_of pools 0) ranks

@@ -10,7 +10,8 @@ use Rattle.figures.specs.declared.Status.{Status}
 use Rattle.waterfall.specs.Register.{Register, GivenBack}
 use Rattle.waterfall.specs.Reply.{layer1, layer2, layer3, layer4, layer5, layer6}
 use Rattle.drill.specs.Drill.{Step, Event, event_of, trace}
-use Rattle.drill.specs.Counting.{accepted, defaults, is_close, loss_in, short_in, fallen_in, fallen_by, layer_in, layer_by, charge_on, call_on, paid_by, replenished_by, sum_over, last_register, defaulted, called_since}
+use Rattle.drill.specs.Counting.{accepted, defaults, is_close, loss_in, short_in, fallen_in, fallen_by, layer_in, layer_by, charge_on, call_on, paid_by}
+use Rattle.drill.specs.Counting.{replenished_by, sum_over, last_register, defaulted, called_since}
 use Rattle.drill.specs.declared.DrillCall.{DrillCall}
 use Rattle.drill.specs.declared.DrillCall.TheVariants.{Default, Payment, Replenishment, Close}
 use Rattle.drill.proofs.Laws.{StepLaws}
@@ -23,7 +24,8 @@ Run r [] = Unit {0}
 Run r (e ∷ events) = StepLaws r e × Run e.register events
 
 -- so does the trace of any list of steps
-step_laws : (r : Register) → GivenBack r → (call : DrillCall) (ranks slip : List ℕ) → StepLaws r (event_of r (record { call = call; ranks = ranks; slip = slip }))
+step_laws : (r : Register) → GivenBack r → (call : DrillCall) (ranks slip : List ℕ)
+    → StepLaws r (event_of r (record { call = call; ranks = ranks; slip = slip }))
 step_laws r g (Default member pools) ranks slip = default_laws r g member pools ranks slip
 step_laws r g (Payment member amount) ranks slip = payment_laws r g member amount ranks slip
 step_laws r g (Replenishment member amount) ranks slip = replenishment_laws r g member amount ranks slip
@@ -112,12 +114,14 @@ module _ (after : List Event) where
       last-live m before b.register (run.0.stays-live m s n.0) n.1 run.1
 
 -- who is in default stays so
-last_in-default : (m : ℕ) (events : List Event) (r : Register) → status_at r.status m ≡ Status.InDefault → Run r events → status_at (last_register r events).status m ≡ Status.InDefault
+last_in-default : (m : ℕ) (events : List Event) (r : Register) → status_at r.status m ≡ Status.InDefault → Run r events
+    → status_at (last_register r events).status m ≡ Status.InDefault
 unfolding last_register
 last_in-default m [] r s run = s
 last_in-default m (e ∷ events) r s run = last_in-default m events e.register (run.0.stays_in-default m s) run.1
 
-pub ever_after : (m : ℕ) (before : List Event) (r : Register) (e : Event) (after : List Event) → Run r (before ++ e ∷ after) → status_at e.register.status m ≡ Status.InDefault
+pub ever_after : (m : ℕ) (before : List Event) (r : Register) (e : Event) (after : List Event) → Run r (before ++ e ∷ after)
+    → status_at e.register.status m ≡ Status.InDefault
     → status_at (last_register r (before ++ e ∷ after)).status m ≡ Status.InDefault
 unfolding last_register
 ever_after m [] r e after run s = last_in-default m after e.register s run.1

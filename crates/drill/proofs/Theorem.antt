@@ -1,4 +1,5 @@
--- Statement 3, proved: for any register sheet, any G and any list of drill calls. Last, that an accepted default reads no larger rank than the limit, and that a defaulter is so for good.
+-- Statement 3, proved: for any register sheet, any G and any list of drill calls. Last, that an accepted default reads no larger rank than the limit, and
+-- that a defaulter is so for good.
 use Prim.Native.Nat.{ℕ, ◌≤◌, ◌<◌}
 use mathlib.Core.Path.{◌≡◌, ap, sym, subst, ◌∙◌}
 use mathlib.Core.Bool.{true, not, ◌&&◌}
@@ -37,13 +38,15 @@ module _ (sheet : List ℕ) (g : ℕ) (steps : List Step) where
   run_of es q = subst (λ (xs : List Event). Run opened xs) q run
 
   -- who is counted as live is so in the register
-  counted-live : (before after : List Event) → Run opened (before ++ after) → (m : ℕ) → live_after sheet g before m ≡ true → status_at (last_register opened before).status m ≡ Status.Live
+  counted-live : (before after : List Event) → Run opened (before ++ after) → (m : ℕ) → live_after sheet g before m ≡ true
+      → status_at (last_register opened before).status m ≡ Status.Live
   counted-live before after r m l =
       let a = both (opening_accepted sheet g && named sheet m) (not (defaulted m before)) l in
       let b = both (opening_accepted sheet g) (named sheet m) a.0 in
       last-live after m before opened ((opens sheet g).status m b.0 b.1) (not-true (defaulted m before) a.1) r
 
-  counted-called : (before after : List Event) → Run opened (before ++ after) → (m : ℕ) → figure (last_register opened before).called m ≡ called_since m 0 before
+  counted-called : (before after : List Event) → Run opened (before ++ after) → (m : ℕ)
+      → figure (last_register opened before).called m ≡ called_since m 0 before
   counted-called before after r m = last-called after m before opened 0 ((opens sheet g).called m) r
 
   counted_cap : (before after : List Event) → Run opened (before ++ after) → (m : ℕ) → figure (last_register opened before).cap m ≡ sheet_cap sheet g m
@@ -95,7 +98,8 @@ module _ (sheet : List ℕ) (g : ℕ) (steps : List Step) where
   -- reads, those of the other live members as they are counted, is 1 to the limit, in each pool
   pub ranks-within : (before : List Event) (e : Event) (after : List Event) → events ≡ before ++ e ∷ after
       → (m : ℕ) (pools : Pools) → e.call ≡ Default m pools → accepted e ≡ true
-      → (p : ℕ) → p < pools.count → (n : ℕ) → OtherLive sheet g before m n → (0 < figure (pool_ranks e.ranks p) n) × (figure (pool_ranks e.ranks p) n ≤ rank_limit)
+      → (p : ℕ) → p < pools.count → (n : ℕ) → OtherLive sheet g before m n
+      → (0 < figure (pool_ranks e.ranks p) n) × (figure (pool_ranks e.ranks p) n ≤ rank_limit)
   ranks-within before e after q m pools c t p h n o =
       let r : Run opened (before ++ e ∷ after) = run_of _ q in
       (next_laws before opened e after r).ranked m pools c t p h n (counted-live before (e ∷ after) r n o.0, o.1)

@@ -22,7 +22,8 @@ parts : (left has given rest : ℕ) → Leaves left has given rest → given + r
 parts left has given rest e = omega arith
 
 -- what layers 1 to 3 leave is what the pools have to place
-module _ (pools : Pools) (fallen margin contribution tranche1 g1 g2 g3 l1 l2 l3 : ℕ) (first : Leaves (total (losses_of pools) + fallen) margin g1 l1) (second : Leaves l1 contribution g2 l2)
+module _ (pools : Pools) (fallen margin contribution tranche1 g1 g2 g3 l1 l2 l3 : ℕ) (first : Leaves (total (losses_of pools) + fallen) margin g1 l1)
+    (second : Leaves l1 contribution g2 l2)
     (third : Leaves l2 tranche1 g3 l3) (few : pools.count ≤ pool_limit) (some : 0 < pools.count) where
   abbrev sums : List ℕ
   sums = sums_of (g1 + g2 + g3) fallen (losses_of pools)
@@ -39,7 +40,8 @@ module _ (pools : Pools) (fallen margin contribution tranche1 g1 g2 g3 l1 l2 l3 
       added : (s a b c l k m : ℕ) → a + l ≡ s → b + k ≡ l → c + m ≡ k → a + b + c + m ≡ s
       added s a b c l k m p q r = omega arith
 
-  pub poolable : (status : List Status) (contributions ranks : List ℕ) → total (losses_of pools) + fallen ≤ allocation_limit → Pooled pools status contributions ranks → Poolable sums status contributions ranks
+  pub poolable : (status : List Status) (contributions ranks : List ℕ) → total (losses_of pools) + fallen ≤ allocation_limit
+      → Pooled pools status contributions ranks → Poolable sums status contributions ranks
   poolable status contributions ranks fits p =
       let n : length sums ≡ pools.count = counted-sums (g1 + g2 + g3) fallen pools in
       record {

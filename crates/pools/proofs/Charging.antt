@@ -26,11 +26,13 @@ use Rattle.rooms.specs.Rooms.{gives, rooms}
 use Rattle.pools.specs.Pools.{portion_of, charges_in, charges_up_to, charges_together, unmet, still_standing, tied, charges_by_pools}
 use Rattle.pools.specs.Parts.{Charges, Chargeable, Poolable, Divided, Divisible, PoolCharged, Tiable, Tied, undivided, shares}
 use Rattle.pools.specs.declared.Division.{Division}
-use Rattle.pools.proofs.Laws.{portion-none, portion_turn, undivided_turn, up_to-within, up_to-placed, length_up_to, pooled-within, pooled-placed, by-pools-within, one_pool_lem}
+use Rattle.pools.proofs.Laws.{portion-none, portion_turn, undivided_turn, up_to-within, up_to-placed, length_up_to, pooled-within, pooled-placed}
+use Rattle.pools.proofs.Laws.{by-pools-within, one_pool_lem}
 
 -- lists that are taken from one list place by place -------------------------------------
 
-minus-shares : (u h : ℕ → ℕ) (sum rest : ℕ) → ((w : ℕ) → u w - share_of (u w) sum rest ≡ h w) → (xs : List ℕ) → minus (map u xs) (shares sum rest (map u xs)) ≡ map h xs
+minus-shares : (u h : ℕ → ℕ) (sum rest : ℕ) → ((w : ℕ) → u w - share_of (u w) sum rest ≡ h w) → (xs : List ℕ)
+    → minus (map u xs) (shares sum rest (map u xs)) ≡ map h xs
 minus-shares u h sum rest e [] = refl
 minus-shares u h sum rest e (x ∷ xs) = rw (e x, minus-shares u h sum rest e xs)
 
@@ -57,7 +59,8 @@ chunk_at (suc n) (suc p) ranks h =
     chunk_at n p (drop member_limit ranks) (omega arith)
     ∙ ap (take member_limit) (drop-drop (member_limit * p) member_limit ranks ∙ ap (λ (k : ℕ). drop k ranks) along)
 
-pub ranks_of-turn : (n p : ℕ) (ranks own : List ℕ) (chunks : List (List ℕ)) → chunks ≡ first_chunks member_limit n ranks → length chunks ≡ n → p < length chunks → own ≡ get_or chunks p [] → own ≡ pool_ranks ranks p
+pub ranks_of-turn : (n p : ℕ) (ranks own : List ℕ) (chunks : List (List ℕ)) → chunks ≡ first_chunks member_limit n ranks → length chunks ≡ n
+    → p < length chunks → own ≡ get_or chunks p [] → own ≡ pool_ranks ranks p
 ranks_of-turn n p ranks own chunks a l h e = e ∙ ap (λ (xs : List (List ℕ)). get_or xs p []) a ∙ chunk_at n p ranks (omega arith)
 
 -- pool by pool --------------------------------------------------------------------------
@@ -80,7 +83,8 @@ module _ (sums : List ℕ) (status : List Status) (contribution ranks : List ℕ
       rw z at (get_or-map (undivided p sums) contribution k 0)
 
   -- what the pools so far charge a member, and what is left of its contribution, is no more than that
-  charges_fit : (p : ℕ) → p ≤ length sums → (k : ℕ) → get_or (charges_up_to sums weights ranks p) k 0 + undivided p sums (get_or contribution k 0) ≤ amount_limit
+  charges_fit : (p : ℕ) → p ≤ length sums → (k : ℕ)
+      → get_or (charges_up_to sums weights ranks p) k 0 + undivided p sums (get_or contribution k 0) ≤ amount_limit
   charges_fit p h k = by (get_or marks k false) (get_or-keep marks contribution k)
     where
       by : (b : Bool) → get_or weights k 0 ≡ cond b (get_or contribution k 0) 0
@@ -133,12 +137,15 @@ module _ (sums : List ℕ) (status : List Status) (contribution ranks : List ℕ
           left_is =
               n.left_is
               ∙ ap (λ (xs : List ℕ). minus xs (shares (get_or sums p 0) d.rest xs)) i.left_is
-              ∙ minus-shares (undivided p sums) (undivided (suc p) sums) (get_or sums p 0) d.rest (λ w. ap (λ (x : ℕ). undivided p sums w - x) (turn_of w) ∙ sym (undivided_turn p sums w h)) contribution;
+              ∙ minus-shares (undivided p sums) (undivided (suc p) sums) (get_or sums p 0) d.rest
+              (λ w. ap (λ (x : ℕ). undivided p sums w - x) (turn_of w) ∙ sym (undivided_turn p sums w h)) contribution;
           rest_is = omega (arith, n.rest_is, i.rest_is, rw (add-one p) at (total_step sums p h));
           charges_are =
               n.charges_are
-              ∙ ap (λ (xs : List ℕ). plus xs (charges_of (get_or sums p 0) (keep marks (shares (get_or sums p 0) d.rest d.left)) (pool_ranks ranks p))) i.charges_are
-              ∙ ap (λ (xs : List ℕ). plus (charges_up_to sums weights ranks p) (charges_of (get_or sums p 0) (keep marks (shares (get_or sums p 0) d.rest xs)) (pool_ranks ranks p))) i.left_is
+              ∙ ap (λ (xs : List ℕ). plus xs (charges_of (get_or sums p 0) (keep marks (shares (get_or sums p 0) d.rest d.left))
+              (pool_ranks ranks p))) i.charges_are
+              ∙ ap (λ (xs : List ℕ). plus (charges_up_to sums weights ranks p)
+              (charges_of (get_or sums p 0) (keep marks (shares (get_or sums p 0) d.rest xs)) (pool_ranks ranks p))) i.left_is
               ∙ ap (λ (xs : List ℕ). plus (charges_up_to sums weights ranks p) (charges_of (get_or sums p 0) xs (pool_ranks ranks p)))
               (keep-shares (undivided p sums) (portion_of sums p) (get_or sums p 0) d.rest turn_of (portion-none sums p) marks contribution);
           total_is = n.total_is;
@@ -187,12 +194,14 @@ module _ (sums : List ℕ) (status : List Status) (contribution ranks : List ℕ
         record {
           charges_are = e;
           total_is = q.total_is;
-          over_is = q.over_is ∙ sym (exceeds-none x.charges contribution (λ k. omega (arith, ap (λ (xs : List ℕ). get_or xs k 0) e, by-pools-within sums weights ranks k, keep-le marks contribution k)));
+          over_is = q.over_is ∙ sym (exceeds-none x.charges contribution
+              (λ k. omega (arith, ap (λ (xs : List ℕ). get_or xs k 0) e, by-pools-within sums weights ranks k, keep-le marks contribution k)));
         }
 
 -- the live members' contributions alone are divided ---------------------------------------
 
-module _ (sums : List ℕ) (status : List Status) (contribution ranks standing : List ℕ) (c : Poolable sums status contribution ranks) (e : standing ≡ keep (live_in status) contribution) where
+module _ (sums : List ℕ) (status : List Status) (contribution ranks standing : List ℕ) (c : Poolable sums status contribution ranks)
+    (e : standing ≡ keep (live_in status) contribution) where
   pub standing_poolable : Poolable sums status standing ranks
   standing_poolable =
       rw e
@@ -210,7 +219,8 @@ module _ (sums : List ℕ) (status : List Status) (contribution ranks standing :
       → Charges (charges_by_pools sums (keep (live_in status) contribution) ranks) contribution x
   standing-charges x q =
       let same : keep (live_in status) standing ≡ keep (live_in status) contribution = ap (keep (live_in status)) e ∙ keep-keep (live_in status) contribution in
-      let is : x.charges ≡ charges_by_pools sums (keep (live_in status) contribution) ranks = q.charges_are ∙ ap (λ (ws : List ℕ). charges_by_pools sums ws ranks) same in
+      let is : x.charges ≡ charges_by_pools sums (keep (live_in status) contribution) ranks = q.charges_are
+      ∙ ap (λ (ws : List ℕ). charges_by_pools sums ws ranks) same in
       let within : (k : ℕ) → get_or x.charges k 0 ≤ get_or (keep (live_in status) contribution) k 0 = λ k.
       omega (arith, ap (λ (xs : List ℕ). get_or xs k 0) is, by-pools-within sums (keep (live_in status) contribution) ranks k) in
       record {
@@ -223,7 +233,8 @@ module _ (sums : List ℕ) (status : List Status) (contribution ranks standing :
       }
 
 -- before the first pool
-pub divided_start : (sums : List ℕ) (status : List Status) (contribution ranks : List ℕ) (whole : ℕ) → length contribution ≡ member_limit → length status ≡ member_limit → whole ≡ total sums
+pub divided_start : (sums : List ℕ) (status : List Status) (contribution ranks : List ℕ) (whole : ℕ) → length contribution ≡ member_limit
+    → length status ≡ member_limit → whole ≡ total sums
     → Divided zero sums status contribution ranks (record { left = contribution; rest = whole; charges = replicate member_limit 0; total = 0 })
 unfolding charges_up_to undivided
 divided_start sums status contribution ranks whole l s w =
@@ -249,7 +260,8 @@ module _ (sums : List ℕ) (status : List Status) (contribution ranks : List ℕ
   pub alone : Chargeable status contribution ranks
   alone = record { ranks_length = ranks_64; contribution_fits = c.contribution_fits; well_ranked = well }
 
-  pub alone_so : (whole : ℕ) → whole ≡ total sums → charges_of whole (keep (live_in status) contribution) ranks ≡ charges_by_pools sums (keep (live_in status) contribution) ranks
+  pub alone_so : (whole : ℕ) → whole ≡ total sums → charges_of whole (keep (live_in status) contribution) ranks ≡ charges_by_pools sums
+      (keep (live_in status) contribution) ranks
   alone_so whole w =
       let ws : List ℕ = keep (live_in status) contribution in
       ap (λ (n : ℕ). charges_of n ws ranks) w

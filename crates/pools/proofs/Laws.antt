@@ -11,7 +11,8 @@ use lib.Seq.{take_all}
 use Rattle.lists.specs.Limits.{member_limit, rank_limit}
 use Rattle.lists.specs.Sums.{total}
 use Rattle.lists.proofs.Places.{map_same}
-use Rattle.lists.proofs.Sums.{total_step, total_zeros, get_or_zeros, zeros, length-plus, get_or-plus, total-plus, plus_none, none-plus, length-minus, get_or-minus, total-minus}
+use Rattle.lists.proofs.Sums.{total_step, total_zeros, get_or_zeros, zeros, length-plus, get_or-plus, total-plus, plus_none, none-plus, length-minus}
+use Rattle.lists.proofs.Sums.{get_or-minus, total-minus}
 use Rattle.split.specs.Split.{share_of, split_of}
 use Rattle.split.proofs.Laws.{share-le_left, share-last, length-split, split-le, split-within, split_whole, total_within}
 use Rattle.ranks.specs.Ranks.{charges_of}
@@ -32,7 +33,8 @@ pub get_or-portions : (sums ws : List ℕ) (p k : ℕ) → get_or (portions_of s
 get_or-portions sums ws p k = rw (portion-none sums p) at (get_or-map (portion_of sums p) ws k 0)
 
 -- a pool's portion is its turn of the split of what is left of the weight
-pub portion_turn : (p : ℕ) (sums : List ℕ) (w : ℕ) → p < length sums → portion_of sums p w ≡ share_of (undivided p sums w) (get_or sums p 0) (total (drop p sums))
+pub portion_turn : (p : ℕ) (sums : List ℕ) (w : ℕ) → p < length sums
+    → portion_of sums p w ≡ share_of (undivided p sums w) (get_or sums p 0) (total (drop p sums))
 unfolding split_of undivided
 portion_turn p [] w h = absurd (omega arith)
 portion_turn zero (s ∷ sums) w h = refl
@@ -72,7 +74,8 @@ module _ (sums ws ranks : List ℕ) where
   in-placed p = charges-within (get_or sums p 0) (portions_of sums ws p) (pool_ranks ranks p)
 
   -- "a pool charges every portion of a greater rank whole before a lesser one gives anything"
-  pub in_juniors-first : (p i j : ℕ) → 0 < get_or (in_pool p) i 0 → get_or (pool_ranks ranks p) i 0 < get_or (pool_ranks ranks p) j 0 → get_or (pool_ranks ranks p) j 0 ≤ rank_limit
+  pub in_juniors-first : (p i j : ℕ) → 0 < get_or (in_pool p) i 0 → get_or (pool_ranks ranks p) i 0 < get_or (pool_ranks ranks p) j 0
+      → get_or (pool_ranks ranks p) j 0 ≤ rank_limit
       → get_or (in_pool p) j 0 ≡ portion_of sums p (get_or ws j 0)
   unfolding charges_in
   in_juniors-first p i j a b c = juniors-first (get_or sums p 0) (portions_of sums ws p) (pool_ranks ranks p) i j a b c ∙ get_or-portions sums ws p j
@@ -119,7 +122,8 @@ module _ (sums ws ranks : List ℕ) where
 
     length-tied : length (tied sums ws ranks) ≡ member_limit
     unfolding tied still_standing
-    length-tied = length-split (gives (unmet sums ws ranks) (total (still_standing sums ws ranks))) (still_standing sums ws ranks) ∙ length-minus ws (charges_together sums ws ranks) ∙ long
+    length-tied = length-split (gives (unmet sums ws ranks) (total (still_standing sums ws ranks))) (still_standing sums ws ranks)
+        ∙ length-minus ws (charges_together sums ws ranks) ∙ long
 
     pub length_by-pools : length (charges_by_pools sums ws ranks) ≡ member_limit
     unfolding charges_by_pools
@@ -160,7 +164,8 @@ module _ (sums ws ranks : List ℕ) where
         pooled-within k,
       )
 
-  by-pools-total : total (charges_by_pools sums ws ranks) ≡ total (charges_together sums ws ranks) + gives (unmet sums ws ranks) (total (still_standing sums ws ranks))
+  by-pools-total : total (charges_by_pools sums ws ranks) ≡ total (charges_together sums ws ranks) + gives (unmet sums ws ranks)
+      (total (still_standing sums ws ranks))
   unfolding charges_by_pools
   by-pools-total = omega (arith, total-plus (charges_together sums ws ranks) (tied sums ws ranks), total-tied)
 
@@ -172,9 +177,11 @@ module _ (sums ws ranks : List ℕ) where
   pub by-pools_exhausted : total (charges_by_pools sums ws ranks) < total sums → (k : ℕ) → get_or (charges_by_pools sums ws ranks) k 0 ≡ get_or ws k 0
   unfolding charges_by_pools tied unmet
   by-pools_exhausted h k =
-      let e : gives (unmet sums ws ranks) (total (still_standing sums ws ranks)) ≡ total (still_standing sums ws ranks) = omega (arith, by-pools-total, pooled-placed) in
+      let e : gives (unmet sums ws ranks) (total (still_standing sums ws ranks)) ≡ total (still_standing sums ws ranks) = omega
+      (arith, by-pools-total, pooled-placed) in
       let t : get_or (tied sums ws ranks) k 0 ≡ get_or (still_standing sums ws ranks) k 0 =
-      ap (λ (n : ℕ). get_or (split_of n (still_standing sums ws ranks)) k 0) e ∙ ap (λ (xs : List ℕ). get_or xs k 0) (split_whole (still_standing sums ws ranks)) in
+      ap (λ (n : ℕ). get_or (split_of n (still_standing sums ws ranks)) k 0) e
+      ∙ ap (λ (xs : List ℕ). get_or xs k 0) (split_whole (still_standing sums ws ranks)) in
       omega (
         arith,
         get_or-plus (charges_together sums ws ranks) (tied sums ws ranks) k,
@@ -228,7 +235,8 @@ module _ (s : ℕ) (ws ranks : List ℕ) (long : length ws ≡ member_limit) (lr
         total-tied (s ∷ []) ws ranks,
         ap total alone-pooled,
         charges_whole s ws ranks ranked (lr ∙ sym long),
-        total-minus ws (charges_together (s ∷ []) ws ranks) (omega (arith, ap length alone-pooled, length-charges s ws ranks (lr ∙ sym long))) (pooled-within (s ∷ []) ws ranks),
+        total-minus ws (charges_together (s ∷ []) ws ranks) (omega (arith, ap length alone-pooled, length-charges s ws ranks (lr ∙ sym long)))
+            (pooled-within (s ∷ []) ws ranks),
       )
 
   pub one_pool_lem : charges_by_pools (s ∷ []) ws ranks ≡ charges_of s ws ranks

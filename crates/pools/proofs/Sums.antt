@@ -40,7 +40,8 @@ module _ (given : ℕ) (losses : List ℕ) where
   pub met_next : (rest : ℕ) (out : List ℕ) (k : ℕ) → Met given losses rest out k → get_or out k 0 ≡ get_or losses k 0
   met_next rest out k m =
       let z : k + 0 ≡ k = omega arith in
-      let e : get_or out (k + 0) 0 ≡ get_or losses (k + 0) 0 = sym (get_or-drop k out 0 0) ∙ ap (λ (xs : List ℕ). get_or xs 0 0) m.stands ∙ get_or-drop k losses 0 0 in
+      let e : get_or out (k + 0) 0 ≡ get_or losses (k + 0) 0 = sym (get_or-drop k out 0 0) ∙ ap (λ (xs : List ℕ). get_or xs 0 0) m.stands
+      ∙ get_or-drop k losses 0 0 in
       rw z at e
 
   pub met_turn : (rest : ℕ) (out : List ℕ) (k met : ℕ) → k < length losses → met ≡ min rest (get_or out k 0) → Met given losses rest out k
@@ -50,7 +51,8 @@ module _ (given : ℕ) (losses : List ℕ) where
       let n : get_or out k 0 ≡ get_or losses k 0 = met_next rest out k m in
       let a : get_or out k 0 - met ≡ get_or losses k 0 - rest = omega arith in
       let b : rest - met ≡ rest - get_or losses k 0 = omega arith in
-      let step : losses_after rest (drop k losses) ≡ (get_or out k 0 - met) ∷ losses_after (rest - met) (drop (k + 1) losses) = rw (a, b, drop_next losses k h) in
+      let step : losses_after rest (drop k losses) ≡ (get_or out k 0 - met) ∷ losses_after (rest - met)
+      (drop (k + 1) losses) = rw (a, b, drop_next losses k h) in
       record {
         as_long = length-set out k (get_or out k 0 - met) ∙ m.as_long;
         stands =

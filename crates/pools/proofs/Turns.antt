@@ -82,7 +82,8 @@ module _ (sum : ℕ) (status : List Status) (ranks : List ℕ) (d : Division) (l
   charged-within : (k : ℕ) → get_or charged k 0 ≤ get_or portions k 0
   charged-within k = omega (arith, charge-within sum (keep (live_in status) portions) ranks k, keep-le (live_in status) portions k)
 
-  pub can-add : (found cs : List ℕ) → found ≡ portions → cs ≡ charges_of sum (keep (live_in status) found) ranks → (k : ℕ) → get_or d.charges k 0 + get_or cs k 0 ≤ amount_limit
+  pub can-add : (found cs : List ℕ) → found ≡ portions → cs ≡ charges_of sum (keep (live_in status) found) ranks → (k : ℕ)
+      → get_or d.charges k 0 + get_or cs k 0 ≤ amount_limit
   can-add found cs a b k =
       let e : cs ≡ charged = b ∙ ap (λ (xs : List ℕ). charges_of sum (keep (live_in status) xs) ranks) a in
       omega (arith, ap (λ (xs : List ℕ). get_or xs k 0) e, charged-within k, portions-within k, p.charges_fit k)
@@ -98,7 +99,8 @@ module _ (sum : ℕ) (status : List Status) (ranks : List ℕ) (d : Division) (l
       omega (arith, ap total b, charges-within sum (keep (live_in status) found) ranks)
 
   -- a pool with a sum
-  pub pool_charged : (found wide cs left charges : List ℕ) (t : ℕ) → found ≡ portions → wide ≡ found → cs ≡ charges_of sum (keep (live_in status) found) ranks → t ≡ total cs
+  pub pool_charged : (found wide cs left charges : List ℕ) (t : ℕ) → found ≡ portions → wide ≡ found
+      → cs ≡ charges_of sum (keep (live_in status) found) ranks → t ≡ total cs
       → left ≡ minus d.left wide → charges ≡ plus d.charges cs
       → PoolCharged sum (live_in status) ranks d (record { left = left; rest = d.rest - sum; charges = charges; total = d.total + t })
   pool_charged found wide cs left charges t a b c w l g =
@@ -117,7 +119,8 @@ module _ (sum : ℕ) (status : List Status) (ranks : List ℕ) (d : Division) (l
         left_is = sym (minus-none d.left portions (total_no-shares sum d.rest d.left z));
         rest_is = omega arith;
         charges_are =
-            sym (none-plus d.charges charged (omega (arith, length_charged, p.charges_length)) (omega (arith, charges-within sum (keep (live_in status) portions) ranks)));
+            sym (none-plus d.charges charged (omega (arith, length_charged, p.charges_length))
+            (omega (arith, charges-within sum (keep (live_in status) portions) ranks)));
         total_is = p.total_is;
       }
 
@@ -145,7 +148,8 @@ module _ (whole : ℕ) (status : List Status) (contribution : List ℕ) (d : Div
         p.roomy.most_fits k,
       )
 
-  pub tied_so : (charges wide : List ℕ) → charges ≡ plus d.charges cs → wide ≡ charges → Tied standing whole d (record { charges = wide; total = d.total + t; over = false })
+  pub tied_so : (charges wide : List ℕ) → charges ≡ plus d.charges cs → wide ≡ charges
+      → Tied standing whole d (record { charges = wide; total = d.total + t; over = false })
   tied_so charges wide a b =
       record {
         charges_are = b ∙ a ∙ ap (plus d.charges) s.shares_are;

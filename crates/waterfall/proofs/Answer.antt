@@ -44,7 +44,8 @@ abbrev pub Placeless : Option Refusal → Type 0
 Placeless (Some refusal) = position_of refusal ≡ 0
 Placeless None = Unit {0}
 
-pub placeless_check : (t : Bool) (refusal : Refusal) (rest : Option Refusal) → position_of refusal ≡ 0 → Placeless rest → Placeless (check t (Some refusal) rest)
+pub placeless_check : (t : Bool) (refusal : Refusal) (rest : Option Refusal) → position_of refusal ≡ 0 → Placeless rest
+    → Placeless (check t (Some refusal) rest)
 placeless_check t refusal rest p q = check_by Placeless t (Some refusal) rest (λ _. p) (λ _. q)
 
 pub placeless_standing : (r : Register) (member : ℕ) (rest : Option Refusal) → Placeless rest → Placeless (standing r.status member rest)
@@ -62,7 +63,8 @@ module _ (r next : Register) where
   says-allocated a None p = record { number_is = refl; position_is = refl; fallen_is = refl; layers_are = λ l. refl; short_is = refl }
 
   -- a call that allocates nothing: its reply, and the register after it
-  pub refused_call : {refusal : Refusal} {found : Option Refusal} → found ≡ Some refusal → (Err refusal ≡ (judged found r None next).reply) × (r ≡ (judged found r None next).register)
+  pub refused_call : {refusal : Refusal} {found : Option Refusal} → found ≡ Some refusal
+      → (Err refusal ≡ (judged found r None next).reply) × (r ≡ (judged found r None next).register)
   unfolding judged
   refused_call e = (rw e, rw e)
 
@@ -71,11 +73,13 @@ module _ (r next : Register) where
   accepted_call e = (rw e, rw e)
 
 -- what the replies of the calls say
-pub says_paid : {reply : Reply} (r : Register) (member amount : ℕ) → reply ≡ (payment_of r member amount).reply → Says reply (payment_refusal r member amount) nothing
+pub says_paid : {reply : Reply} (r : Register) (member amount : ℕ) → reply ≡ (payment_of r member amount).reply
+    → Says reply (payment_refusal r member amount) nothing
 unfolding payment_of payment_refusal
 says_paid r member amount e = rw e (says _ _ _ (placeless_standing r member _ (placeless_check _ _ _ refl (tt {0}))))
 
-pub says_replenished : {reply : Reply} (r : Register) (member amount : ℕ) → reply ≡ (replenishment_of r member amount).reply → Says reply (replenishment_refusal r member amount) nothing
+pub says_replenished : {reply : Reply} (r : Register) (member amount : ℕ) → reply ≡ (replenishment_of r member amount).reply
+    → Says reply (replenishment_refusal r member amount) nothing
 unfolding replenishment_of replenishment_refusal
 says_replenished r member amount e = rw e (says _ _ _ (placeless_standing r member _ (placeless_check _ _ _ refl (tt {0}))))
 
@@ -89,7 +93,8 @@ pub record Fit (member : ℕ) (unfit : Bool) : Type 0 where
   pub most : member ≤ member_limit
   pub fits : unfit ≡ false
 
-pub fit : (r : Register) (member : ℕ) (reason : Refusal) (unfit : Bool) → GivenBack r → standing r.status member (check unfit (Some reason) None) ≡ None → Fit member unfit
+pub fit : (r : Register) (member : ℕ) (reason : Refusal) (unfit : Bool) → GivenBack r
+    → standing r.status member (check unfit (Some reason) None) ≡ None → Fit member unfit
 fit r member reason unfit g e =
     let at = place r.status member _ g.status_length e in
     record { least = at.0; most = at.1; fits = (check_past unfit (Some reason) None (λ q. cc) (passes r.status member _ e).rest-none).0 }

@@ -12,11 +12,13 @@ use Rattle.split.proofs.Laws.{exceeds-none, split-within, split_whole}
 use Rattle.figures.specs.Figures.{is_live, figure, replace, others}
 use Rattle.figures.specs.declared.Status.{Status}
 use Rattle.figures.proofs.Figures.{live_at}
-use Rattle.waterfall.specs.Default.{standing_of, rooms_of, fallen_call, to_place, on_margin, after1, on_contribution, after2, on_tranche1, after3, after4, on_tranche2, after5, on_calls, calls, shortfall, overdrawn}
+use Rattle.waterfall.specs.Default.{standing_of, rooms_of, fallen_call, to_place, on_margin, after1, on_contribution, after2, on_tranche1, after3, after4}
+use Rattle.waterfall.specs.Default.{on_tranche2, after5, on_calls, calls, shortfall, overdrawn}
 use Rattle.waterfall.specs.Register.{Register}
 
 -- a member that is in default, the defaulter too, is none of the others
-pub unmarked : (r : Register) (member k : ℕ) → get_or (replace r.status member Status.InDefault) k Status.Absent ≡ Status.InDefault → get_or (others r.status member) k false ≡ false
+pub unmarked : (r : Register) (member k : ℕ) → get_or (replace r.status member Status.InDefault) k Status.Absent ≡ Status.InDefault
+    → get_or (others r.status member) k false ≡ false
 unmarked r member k e = live_at (replace r.status member Status.InDefault) k ∙ ap is_live e
 
 -- the rest of a cap is at most cap minus what was called
@@ -32,7 +34,8 @@ pub record Layer4 (r : Register) (member loss : ℕ) (charged : List ℕ) : Type
   pub within_left : total charged ≤ after3 r member loss
   pub exhausted : total charged < after3 r member loss → (k : ℕ) → get_or charged k 0 ≡ get_or (standing_of r member) k 0
 
-pub charges-within : (r : Register) (member loss : ℕ) (charged : List ℕ) → Layer4 r member loss charged → (k : ℕ) → get_or charged k 0 ≤ get_or r.contribution k 0
+pub charges-within : (r : Register) (member loss : ℕ) (charged : List ℕ) → Layer4 r member loss charged → (k : ℕ)
+    → get_or charged k 0 ≤ get_or r.contribution k 0
 charges-within r member loss charged f k = omega (arith, f.weighed k, keep-le (others r.status member) r.contribution k)
 
 module _ (r : Register) (member loss : ℕ) (charged : List ℕ) where
@@ -67,7 +70,8 @@ module _ (r : Register) (member loss : ℕ) (charged : List ℕ) where
   left6 = omega arith
 
   -- the six layers and the shortfall are the loss and the fallen call
-  pub placed : Layer4 r member loss charged → on_margin r member loss + on_contribution r member loss + on_tranche1 r member loss + total charged + on_tranche2 r member loss charged + on_calls r member loss charged + shortfall r member loss charged ≡ loss + fallen_call r member
+  pub placed : Layer4 r member loss charged → on_margin r member loss + on_contribution r member loss + on_tranche1 r member loss + total
+      charged + on_tranche2 r member loss charged + on_calls r member loss charged + shortfall r member loss charged ≡ loss + fallen_call r member
   unfolding to_place
   placed f = omega (arith, left1, left2, left3, left4 f, left5, left6)
 

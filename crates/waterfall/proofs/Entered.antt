@@ -37,7 +37,8 @@ pub record Fits (columns : Columns) : Type 0 where
 fits-none : Fits no_columns
 fits-none = record { present-length = refl; first-length = refl; second-length = refl; third-length = refl; amounts = amounts_none }
 
-fits_from : (n : ℕ) (sheet : List ℕ) (i last : ℕ) (columns : Columns) → Fits columns → member_refusal_from contribution_floor n sheet i last ≡ None → Fits (columns_from n sheet i columns)
+fits_from : (n : ℕ) (sheet : List ℕ) (i last : ℕ) (columns : Columns) → Fits columns → member_refusal_from contribution_floor n sheet i last ≡ None
+    → Fits (columns_from n sheet i columns)
 unfolding columns_from
 fits_from zero sheet i last columns f q = f
 fits_from (suc n) sheet i last columns f q =

@@ -52,7 +52,8 @@ given_empty =
 
 module _ (r : Register) (g : GivenBack r) where
   -- a figure that falls stays within what bounds it
-  fallen-figure : (bound : ℕ → ℕ) (xs : List ℕ) (member less : ℕ) → ((k : ℕ) → get_or xs k 0 ≤ bound k) → (k : ℕ) → get_or (replace xs member (figure xs member - less)) k 0 ≤ bound k
+  fallen-figure : (bound : ℕ → ℕ) (xs : List ℕ) (member less : ℕ) → ((k : ℕ) → get_or xs k 0 ≤ bound k) → (k : ℕ)
+      → get_or (replace xs member (figure xs member - less)) k 0 ≤ bound k
   fallen-figure bound xs member less h =
       set_all (λ k x. x ≤ bound k) xs (member - 1) (figure xs member - less) h (omega (arith, figure-le_at xs member, h (member - 1)))
 
@@ -146,7 +147,8 @@ module _ (r : Register) (g : GivenBack r) where
   length-standing member = length-keep (others r.status member) r.contribution (length-others member ∙ sym g.contribution_length) ∙ g.contribution_length
 
   -- a member that is in default, the defaulter too, is not called
-  pub uncalled : (member loss : ℕ) (charged : List ℕ) (k : ℕ) → get_or (replace r.status member Status.InDefault) k Status.Absent ≡ Status.InDefault → get_or (calls r member loss charged) k 0 ≡ 0
+  pub uncalled : (member loss : ℕ) (charged : List ℕ) (k : ℕ) → get_or (replace r.status member Status.InDefault) k Status.Absent ≡ Status.InDefault
+      → get_or (calls r member loss charged) k 0 ≡ 0
   unfolding rooms_of
   uncalled member loss charged k e =
       omega (
@@ -175,7 +177,12 @@ module _ (r : Register) (g : GivenBack r) where
         called_length = length-plus called calling (g.called_length ∙ sym lc) ∙ g.called_length;
         margin_fits = fallen-figure (λ k. amount_limit) r.margin member (on_margin r member loss) g.margin_fits;
         contribution_fits = λ k.
-            omega (arith, get_or-minus own charged k, fallen-figure (λ n. get_or r.requirement n 0) r.contribution member (on_contribution r member loss) g.contribution_fits k);
+            omega (
+              arith,
+              get_or-minus own charged k,
+              fallen-figure (λ n. get_or r.requirement n 0) r.contribution member
+                  (on_contribution r member loss) g.contribution_fits k,
+            );
         requirement_fits = g.requirement_fits;
         cap_fits = g.cap_fits;
         called_fits = λ k. omega (arith, get_or-plus called calling k, room k, g.called_fits k);

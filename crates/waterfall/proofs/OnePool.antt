@@ -18,7 +18,8 @@ use Rattle.lists.proofs.Checks.{check_same, check_skip, neither}
 use Rattle.lists.proofs.Sums.{single, kept_mark, mark-within}
 use Rattle.refusal.specs.declared.Refusal.{Refusal}
 use Rattle.figures.specs.Figures.{status_at, is_absent, is_in-default, others}
-use Rattle.admission.specs.Admission.{unready, misranked, admission, loss_of, losses_of, miscounted, excessive_losses, pools_unready, pools_misranked, pools_admission}
+use Rattle.admission.specs.Admission.{unready, misranked, admission, loss_of, losses_of, miscounted, excessive_losses, pools_unready, pools_misranked}
+use Rattle.admission.specs.Admission.{pools_admission}
 use Rattle.admission.specs.declared.Pools.{Pools}
 use Rattle.admission.proofs.Admitted.{Admitted, admitted}
 use Rattle.admission.proofs.Ranked.{ranks-read}
@@ -35,7 +36,8 @@ use Rattle.waterfall.proofs.Given.{length-others, length-standing}
 use Rattle.waterfall.proofs.Pooled.{length_pool-sums, total_pool-sums}
 
 -- two calls that are judged alike, and are accepted alike
-judged_same : (refusal : Option Refusal) (r : Register) (a b : Option Allocation) (x y : Register) → (refusal ≡ None → (a ≡ b) × (x ≡ y)) → judged refusal r a x ≡ judged refusal r b y
+judged_same : (refusal : Option Refusal) (r : Register) (a b : Option Allocation) (x y : Register) → (refusal ≡ None → (a ≡ b) × (x ≡ y))
+    → judged refusal r a x ≡ judged refusal r b y
 unfolding judged
 judged_same (Some refusal) r a b x y same = refl
 judged_same None r a b x y same = rw ((same refl).0, (same refl).1)
@@ -55,7 +57,8 @@ module _ (r : Register) (g : GivenBack r) (member : ℕ) (pools : Pools) (one : 
     ranked : (k : ℕ) → 0 < get_or (standing_of r member) k 0 → (0 < get_or ranks k 0) × (get_or ranks k 0 ≤ rank_limit)
     ranked k h =
         let m = kept_mark (others r.status member) r.contribution k h in
-        ranks-read (others r.status member) ranks a.well_ranked k (omega (arith, mark-within (others r.status member) k m, length-others r g member, a.ranks_length)) m
+        ranks-read (others r.status member) ranks a.well_ranked k
+        (omega (arith, mark-within (others r.status member) k m, length-others r g member, a.ranks_length)) m
 
     sole : pool_sums r member pools ≡ after3 r member loss ∷ []
     sole =
@@ -79,7 +82,8 @@ module _ (r : Register) (g : GivenBack r) (member : ℕ) (pools : Pools) (one : 
   fourteen slip = ap (λ (n : ℕ). pools_unready n (length ranks) slip) one
 
   sixty-four : (slip : ℕ) → unready (length ranks) slip ≡ false → length ranks ≡ member_limit
-  sixty-four slip e = eqb-true (length ranks) member_limit (not-false _ (neither (not (eqb (length ranks) member_limit)) (ltb slip (member_limit + member_limit)) e).0)
+  sixty-four slip e = eqb-true (length ranks) member_limit
+      (not-false _ (neither (not (eqb (length ranks) member_limit)) (ltb slip (member_limit + member_limit)) e).0)
 
   fifteen : length ranks ≡ member_limit → pools_misranked (others r.status member) ranks pools.count ≡ misranked (others r.status member) ranks
   unfolding pools_misranked
@@ -96,14 +100,16 @@ module _ (r : Register) (g : GivenBack r) (member : ℕ) (pools : Pools) (one : 
       (check_same (excessive_losses (losses_of pools)) (ltb sum_limit loss) (Some Refusal.ExcessiveLoss) _ _ thirteen (λ p13.
       check_skip (ltb sum_limit (total (losses_of pools))) (Some Refusal.ExcessiveLosses) _ _ (ap (ltb sum_limit) together ∙ p13)
       (check_same (pools_unready pools.count (length ranks) slip) (unready (length ranks) slip) (Some Refusal.Unready) _ _ (fourteen slip) (λ p14.
-      check_same (pools_misranked (others r.status member) ranks pools.count) (misranked (others r.status member) ranks) (Some Refusal.Misranked) _ _ (fifteen (sixty-four slip p14)) (λ p15.
+      check_same (pools_misranked (others r.status member) ranks pools.count) (misranked (others r.status member) ranks) (Some Refusal.Misranked) _ _
+      (fifteen (sixty-four slip p14)) (λ p15.
       same
       record {
         present = λ q. true≢false (sym (ap is_absent q) ∙ p11);
         not_in-default = λ q. true≢false (sym (ap is_in-default q) ∙ p12);
         loss_fits = ltb-false sum_limit loss p13;
         ranks_length = sixty-four slip p14;
-        slip-length = ltb-false slip (member_limit + member_limit) (neither (not (eqb (length ranks) member_limit)) (ltb slip (member_limit + member_limit)) p14).1;
+        slip-length = ltb-false slip (member_limit + member_limit)
+            (neither (not (eqb (length ranks) member_limit)) (ltb slip (member_limit + member_limit)) p14).1;
         well_ranked = p15;
       })))))))
 
@@ -123,7 +129,8 @@ module _ (r : Register) (g : GivenBack r) (member : ℕ) (pools : Pools) (one : 
   one_pool-answers : (slip : List ℕ) → pooled_of r member pools ranks slip ≡ default_of r member loss ranks slip
   unfolding pooled_of default_of pooled_allocation
   one_pool-answers slip =
-      ap (λ (o : Option Refusal). judged o r (Some (pooled_allocation r member pools ranks)) (settled_of r member (loss_together pools) (pooled_charges r member pools ranks))) (same-refusal slip)
+      ap (λ (o : Option Refusal). judged o r (Some (pooled_allocation r member pools ranks))
+      (settled_of r member (loss_together pools) (pooled_charges r member pools ranks))) (same-refusal slip)
       ∙ judged_same (default_refusal r member loss ranks slip) r _ _ _ _ (λ e.
       let charged = accepted_same slip e in (
         ap (λ (l : ℕ). Some (allocation_of r member l (pooled_charges r member pools ranks))) together
@@ -134,7 +141,8 @@ module _ (r : Register) (g : GivenBack r) (member : ℕ) (pools : Pools) (one : 
   one_pool-slip : (slip : List ℕ) → pooled_slip r member pools ranks slip ≡ default_slip r member loss ranks slip
   unfolding pooled_slip default_slip
   one_pool-slip slip =
-      check_same (is_some (pooled_refusal r member pools ranks slip)) (is_some (default_refusal r member loss ranks slip)) _ _ _ (ap is_some (same-refusal slip)) (λ p.
+      check_same (is_some (pooled_refusal r member pools ranks slip)) (is_some (default_refusal r member loss ranks slip)) _ _ _
+      (ap is_some (same-refusal slip)) (λ p.
       ap (λ (l : ℕ). slip_of r member l (pooled_charges r member pools ranks) slip) together
       ∙ ap (λ (cs : List ℕ). slip_of r member loss cs slip) (accepted_same slip (is_none _ p)))
 

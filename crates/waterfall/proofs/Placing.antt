@@ -28,13 +28,15 @@ use Rattle.pools.specs.Pools.{sums_of, charges_by_pools}
 use Rattle.layers.specs.Parts.{Allocatable, GoesDown, estate_of}
 use Rattle.layers.specs.declared.Placed.{Placed}
 use Rattle.waterfall.specs.Register.{Register, GivenBack}
-use Rattle.waterfall.specs.Default.{standing_of, rooms_of, fallen_call, to_place, on_margin, after1, on_contribution, after2, on_tranche1, after3, after4, on_tranche2, after5, on_calls, calls, shortfall, allocation_of, settled_of, overdrawn, slip_of}
+use Rattle.waterfall.specs.Default.{standing_of, rooms_of, fallen_call, to_place, on_margin, after1, on_contribution, after2, on_tranche1, after3, after4}
+use Rattle.waterfall.specs.Default.{on_tranche2, after5, on_calls, calls, shortfall, allocation_of, settled_of, overdrawn, slip_of}
 use Rattle.waterfall.specs.Pools.{loss_together, given_before, pool_sums, pooled_charges, pooled_allocation, pooled_refusal, pooled_of, pooled_slip}
 use Rattle.layers.specs.declared.Allocation.{Allocation}
 use Rattle.waterfall.specs.Parts.{settled_as, Settles}
 use Rattle.waterfall.specs.Reply.{Reply, Says, judged}
 use Rattle.waterfall.proofs.Answer.{Placeless, placeless_check, placeless_standing, says-allocated}
-use Rattle.waterfall.proofs.Default.{Layer4, unmarked, rooms-within, charges-within, calls-within, margin-gives, contribution-gives, tranche1-gives, tranche2-gives}
+use Rattle.waterfall.proofs.Default.{Layer4, unmarked, rooms-within, charges-within, calls-within, margin-gives, contribution-gives, tranche1-gives}
+use Rattle.waterfall.proofs.Default.{tranche2-gives}
 use Rattle.waterfall.proofs.Given.{given-settled}
 use Rattle.waterfall.proofs.Pooled.{pooled_layer4}
 
@@ -75,7 +77,8 @@ module _ (r : Register) (member : ℕ) (pools : Pools) (ranks slip : List ℕ) w
       (placeless_check _ _ _ refl
       (placeless_check _ _ _ refl (tt {0})))))))
 
-  pub says_pooled : {reply : Reply} → reply ≡ (pooled_of r member pools ranks slip).reply → Says reply (pooled_refusal r member pools ranks slip) (pooled_allocation r member pools ranks)
+  pub says_pooled : {reply : Reply} → reply ≡ (pooled_of r member pools ranks slip).reply
+      → Says reply (pooled_refusal r member pools ranks slip) (pooled_allocation r member pools ranks)
   unfolding pooled_of
   says_pooled e = rw e (says-allocated _ _ _ _ placeless)
 
@@ -95,7 +98,8 @@ module _ (r : Register) (member : ℕ) (pools : Pools) (ranks slip : List ℕ) w
     pub settles : Settles r member x
     pub allocation_is : x.allocation ≡ pooled_allocation r member pools ranks
     pub settled_is : settled_as r member x ≡ settled_of r member (loss_together pools) (pooled_charges r member pools ranks)
-    pub slip_is : x.charges ++ x.called ++ drop (member_limit + member_limit) slip ≡ slip_of r member (loss_together pools) (pooled_charges r member pools ranks) slip
+    pub slip_is : x.charges ++ x.called ++ drop (member_limit + member_limit) slip ≡ slip_of r member (loss_together pools)
+        (pooled_charges r member pools ranks) slip
     pub slip_fits : member_limit + member_limit ≤ length slip
 
   pub accepted : {x : Placed} → PlacedAs x → {a : Allocation} {next : Register} {left : List ℕ} → a ≡ x.allocation → next ≡ settled_as r member x
@@ -152,7 +156,8 @@ module _ (r : Register) (g : GivenBack r) (member : ℕ) (pools : Pools) (ranks 
       }
 
   -- what goes down the layers, by what the register has
-  module _ (x : Placed) (d : GoesDown (losses_of pools) (estate_of r.outstanding r.margin r.contribution member) r.tranche1 r.tranche2 (live_in marked) r.contribution (rooms (live_in marked) r.cap r.called) ranks x) where
+  module _ (x : Placed) (d : GoesDown (losses_of pools) (estate_of r.outstanding r.margin r.contribution member) r.tranche1 r.tranche2
+      (live_in marked) r.contribution (rooms (live_in marked) r.cap r.called) ranks x) where
     layer1_is : (x.allocation.margin ≡ on_margin r member loss) × (d.left1 ≡ after1 r member loss)
     unfolding on_margin after1 to_place fallen_call
     layer1_is = layer_as _ _ _ _ _ _ d.layer1 refl refl
@@ -169,7 +174,8 @@ module _ (r : Register) (g : GivenBack r) (member : ℕ) (pools : Pools) (ranks 
     unfolding pooled_charges pool_sums given_before fallen_call
     layer4_is =
         d.charges_are
-        ∙ ap (λ (n : ℕ). charges_by_pools (sums_of n (figure r.outstanding member) (losses_of pools)) (standing_of r member) ranks) (rw (layer1_is.0, layer2_is.0, layer3_is.0))
+        ∙ ap (λ (n : ℕ). charges_by_pools (sums_of n (figure r.outstanding member) (losses_of pools)) (standing_of r member) ranks)
+        (rw (layer1_is.0, layer2_is.0, layer3_is.0))
 
     left4_is : d.left3 - x.allocation.members ≡ after4 r member loss charged
     unfolding after4
@@ -182,7 +188,8 @@ module _ (r : Register) (g : GivenBack r) (member : ℕ) (pools : Pools) (ranks 
     called_is : x.called ≡ calls r member loss charged
     unfolding calls on_calls rooms_of
     called_is =
-        d.layer6.shares_are ∙ ap (λ (n : ℕ). split_of (gives n (total (rooms (live_in marked) r.cap r.called))) (rooms (live_in marked) r.cap r.called)) layer5_is.1
+        d.layer6.shares_are ∙ ap (λ (n : ℕ). split_of (gives n (total (rooms (live_in marked) r.cap r.called)))
+        (rooms (live_in marked) r.cap r.called)) layer5_is.1
 
     allocation_is : x.allocation ≡ pooled_allocation r member pools ranks
     unfolding pooled_allocation allocation_of fallen_call on_calls shortfall rooms_of
@@ -213,7 +220,8 @@ module _ (r : Register) (g : GivenBack r) (member : ℕ) (pools : Pools) (ranks 
     -- the defaulter is charged nothing in layer 4
     uncharged : get_or charged at 0 ≡ 0
     uncharged =
-        let d : get_or marked at Status.Absent ≡ Status.InDefault = get_or-set_same r.status at Status.InDefault Status.Absent (omega (arith, placed_at, g.status_length)) in
+        let d : get_or marked at Status.Absent ≡ Status.InDefault = get_or-set_same r.status at Status.InDefault Status.Absent
+        (omega (arith, placed_at, g.status_length)) in
         omega (arith, layer4.weighed at, unkept (others r.status member) r.contribution at (unmarked r member at d))
 
     settles : Settles r member x
@@ -226,7 +234,8 @@ module _ (r : Register) (g : GivenBack r) (member : ℕ) (pools : Pools) (ranks 
           contribution_within = rw layer2_is.0 (contribution-gives r member loss charged);
           tranche1_within = rw layer3_is.0 (tranche1-gives r member loss charged);
           tranche2_within = rw layer5_is.0 (tranche2-gives r member loss charged);
-          charges_within = rw layer4_is (set_all (λ k x. get_or charged k 0 ≤ x) r.contribution at _ (charges-within r member loss charged layer4) (omega (arith, uncharged)));
+          charges_within = rw layer4_is (set_all (λ k x. get_or charged k 0 ≤ x) r.contribution at _ (charges-within r member loss charged layer4)
+              (omega (arith, uncharged)));
           called_within = rw called_is (λ k. omega (arith, calls-within r member loss charged k, rooms-within r member k, g.called_fits k, g.cap_fits k));
           calls_are = whole_shared _ _ _ _ _ _ d.layer6;
           given_back = rw settled_is (given-settled r g member loss charged);

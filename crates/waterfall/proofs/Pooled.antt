@@ -31,7 +31,8 @@ module _ (r : Register) (member : ℕ) (pools : Pools) (some : 0 < pools.count) 
       ∙ omega (arith, left1 r member (loss_together pools) [], left2 r member (loss_together pools) [], left3 r member (loss_together pools) [])
 
   -- what is known of layer 4
-  pub pooled_layer4 : GivenBack r → (ranks : List ℕ) → length ranks ≡ member_limit * pools.count → Layer4 r member (loss_together pools) (pooled_charges r member pools ranks)
+  pub pooled_layer4 : GivenBack r → (ranks : List ℕ) → length ranks ≡ member_limit * pools.count
+      → Layer4 r member (loss_together pools) (pooled_charges r member pools ranks)
   unfolding pooled_charges
   pooled_layer4 g ranks l =
       let sums : List ℕ = pool_sums r member pools in

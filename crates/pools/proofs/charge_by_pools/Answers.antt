@@ -29,7 +29,8 @@ returns-then-sums-eq1 c =
     let a = c.args in
     let e = c.charge_others.ensures in
     record {
-      charges_are = e.charges_are ∙ alone_so a.sums.now a.status.now a.contribution.now a.ranks.now (omega arith) (omega arith) c.requires c.if-sums-eq1.true _ c.total-whole.ensures;
+      charges_are = e.charges_are ∙ alone_so a.sums.now a.status.now a.contribution.now a.ranks.now (omega arith)
+          (omega arith) c.requires c.if-sums-eq1.true _ c.total-whole.ensures;
       total_is = e.total_is;
       over_is = e.over_is;
     }
@@ -40,11 +41,13 @@ charge_pools-division-requires-clause-poolable c = poolable (goal.at.charge_pool
 pub tie-requires : goal.tie-requires
 tie-requires c =
     let a = c.args in
-    tiable a.sums.now a.status.now c.of_live-standing.result a.ranks.now (omega arith) (omega arith) (poolable (goal.at.tie-requires c).After-of_live-standing) c.charge_pools-division.result c.charge_pools-division.ensures _ c.total-whole.ensures
+    tiable a.sums.now a.status.now c.of_live-standing.result a.ranks.now (omega arith) (omega arith)
+    (poolable (goal.at.tie-requires c).After-of_live-standing) c.charge_pools-division.result c.charge_pools-division.ensures _ c.total-whole.ensures
 
 pub returns : goal.returns
 returns c =
     let a = c.args in
     let at = goal.at.returns c in
     standing-charges a.sums.now a.status.now a.contribution.now a.ranks.now c.of_live-standing.result c.requires (stands at.After-of_live-standing) _
-    (by-pools_so a.sums.now a.status.now c.of_live-standing.result a.ranks.now (omega arith) (omega arith) (poolable at.After-of_live-standing) c.charge_pools-division.result c.charge_pools-division.ensures _ c.total-whole.ensures _ c.tie.ensures)
+    (by-pools_so a.sums.now a.status.now c.of_live-standing.result a.ranks.now (omega arith) (omega arith)
+    (poolable at.After-of_live-standing) c.charge_pools-division.result c.charge_pools-division.ensures _ c.total-whole.ensures _ c.tie.ensures)

@@ -25,7 +25,8 @@ charge_by_rank-requires-clause-weighed c =
     let p = c.requires.chargeable in
     record {
       weights_fit = p.contribution_fits;
-      ranks_fit = λ k. rw (read (goal.at.charge_by_rank-requires-clause-weighed c).After-of_live-read) (ranks_fit (live_in a.status.now) a.ranks.now p.well_ranked k);
+      ranks_fit = λ k. rw (read (goal.at.charge_by_rank-requires-clause-weighed c).After-of_live-read)
+          (ranks_fit (live_in a.status.now) a.ranks.now p.well_ranked k);
     }
 
 pub returns : goal.returns

@@ -17,7 +17,8 @@ module _ (c : In-Some) where
   turn =
       let a = c.args in
       let l = c.loop-sum in
-      let z = zip_turn a.sums.now c.as_chunks.result.0.now l.yielded c.into_iter-sum-iterator.result _ c.next.new.self c.next.result (search rules) (search rules) l.yielded_by _ c.in-Some.is c.next.ensures.steps in
+      let z = zip_turn a.sums.now c.as_chunks.result.0.now l.yielded c.into_iter-sum-iterator.result _ c.next.new.self c.next.result (search rules)
+      (search rules) l.yielded_by _ c.in-Some.is c.next.ensures.steps in
       (z.0, z.2 0, ranks_of-turn _ _ a.ranks.now _ _ c.as_chunks.ensures.front c.as_chunks.ensures.front_len z.1 (z.3 []))
 
 pub loop-sum-init : goal.loop-sum-init
@@ -27,11 +28,13 @@ pub charge-requires : goal.charge-requires
 charge-requires c =
     let a = c.args in
     let t = turn (goal.at.charge-requires c).In-Some in
-    rw (t.1, t.2) (divisible a.sums.now a.status.now a.contribution a.ranks.now (omega arith) (omega arith) c.requires.poolable _ t.0 c.loop-sum.division c.loop-sum.invariant)
+    rw (t.1, t.2) (divisible a.sums.now a.status.now a.contribution a.ranks.now (omega arith)
+    (omega arith) c.requires.poolable _ t.0 c.loop-sum.division c.loop-sum.invariant)
 
 pub loop-sum-preserved : goal.loop-sum-preserved
 loop-sum-preserved c =
     let a = c.args in
     let t = turn (goal.at.loop-sum-preserved c).In-Some in
-    simp length-append (divided_turn a.sums.now a.status.now a.contribution a.ranks.now (omega arith) (omega arith) c.requires.poolable _ t.0 c.loop-sum.division c.loop-sum.invariant c.charge.new.self
+    simp length-append (divided_turn a.sums.now a.status.now a.contribution a.ranks.now (omega arith)
+    (omega arith) c.requires.poolable _ t.0 c.loop-sum.division c.loop-sum.invariant c.charge.new.self
     (rw (t.1, t.2) at c.charge.ensures))

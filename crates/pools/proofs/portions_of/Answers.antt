@@ -14,4 +14,5 @@ returns-then-sum-rest c =
 pub returns : goal.returns
 returns c =
     let a = c.args in
-    made_as _ _ 0 _ (shares a.sum a.rest a.left) (λ i y q h t. search (rules, get_or-shares)) (omega (arith, length-map a.left (λ w. share_of w a.sum a.rest))) c.from_fn.ensures.items
+    made_as _ _ 0 _ (shares a.sum a.rest a.left) (λ i y q h t. search (rules, get_or-shares))
+    (omega (arith, length-map a.left (λ w. share_of w a.sum a.rest))) c.from_fn.ensures.items

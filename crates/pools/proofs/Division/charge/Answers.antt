@@ -19,7 +19,8 @@ take_from-requires c =
 
 pub add_to-requires-clause-fits : goal.add_to-requires-clause-fits
 add_to-requires-clause-fits c =
-    can-add c.args.sum c.args.status.now c.args.ranks.now c.args.self.now (omega arith) c.requires _ _ c.portions_of-portions.ensures c.charge_others-charged.ensures.charges_are
+    can-add c.args.sum c.args.status.now c.args.ranks.now c.args.self.now
+    (omega arith) c.requires _ _ c.portions_of-portions.ensures c.charge_others-charged.ensures.charges_are
 
 pub overflow_add-self : goal.overflow_add-self
 overflow_add-self c =
@@ -29,10 +30,12 @@ overflow_add-self c =
       c.requires.sum_fits,
       c.requires.rest_fits,
       total_most c.args.sum c.args.status.now c.args.ranks.now c.args.self.now (omega arith) c.requires,
-      charged_most c.args.sum c.args.status.now c.args.ranks.now c.args.self.now (omega arith) c.requires _ _ _ c.portions_of-portions.ensures e.charges_are e.total_is,
+      charged_most c.args.sum c.args.status.now c.args.ranks.now c.args.self.now
+          (omega arith) c.requires _ _ _ c.portions_of-portions.ensures e.charges_are e.total_is,
     )
 
 pub returns : goal.returns
 returns c =
     let e = c.charge_others-charged.ensures in
-    pool_charged c.args.sum c.args.status.now c.args.ranks.now c.args.self.now (omega arith) c.requires _ _ _ _ _ _ c.portions_of-portions.ensures c.widened.ensures e.charges_are e.total_is c.take_from.ensures c.add_to.ensures
+    pool_charged c.args.sum c.args.status.now c.args.ranks.now c.args.self.now
+    (omega arith) c.requires _ _ _ _ _ _ c.portions_of-portions.ensures c.widened.ensures e.charges_are e.total_is c.take_from.ensures c.add_to.ensures

@@ -25,7 +25,8 @@ module _ (c : In_ok-default_admission) where
 
 pub allocate-placed-requires : goal.allocate-placed-requires
 allocate-placed-requires c =
-    allocatable (seen c.self.inside) c.self.invariant c.args.member c.args.pools c.args.ranks.now c.args.slip.now (passed (goal.at.allocate-placed-requires c).In_ok-default_admission)
+    allocatable (seen c.self.inside) c.self.invariant c.args.member c.args.pools c.args.ranks.now c.args.slip.now
+    (passed (goal.at.allocate-placed-requires c).In_ok-default_admission)
 
 pub returns-then-placed : goal.returns-then-placed
 returns-then-placed c =
@@ -44,7 +45,8 @@ module _ (c : Else-placed) where
       let early-none : early (seen c.self.inside) c.args.member c.args.pools c.args.ranks.now c.args.slip.now ≡ None =
       is_passed _ (sym c.default_admission.ensures ∙ c.in_ok-default_admission.was) in
       rw (← c.self.view_is)
-      (placed_as (seen c.self.inside) c.self.invariant c.args.member c.args.pools c.args.ranks.now c.args.slip.now early-none _ c.allocate-placed.ensures c.if-placed.false)
+      (placed_as (seen c.self.inside) c.self.invariant c.args.member c.args.pools c.args.ranks.now c.args.slip.now early-none _
+      c.allocate-placed.ensures c.if-placed.false)
 
 pub settle-requires : goal.settle-requires
 settle-requires c = (placed (goal.at.settle-requires c).Else-placed).settles

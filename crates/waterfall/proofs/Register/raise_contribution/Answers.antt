@@ -23,7 +23,8 @@ use Rattle.waterfall.proofs.Register.raise_contribution.Goals.{In_ok-amount_admi
 use Rattle.waterfall.proofs.Register.raise_contribution.Goals as goal
 
 -- the refusal that is found at the room is the one at the requirement
-found : (r : Register) (member amount held most : ℕ) {answer : Result (Unit {0}) Refusal} → GivenBack r → held ≡ figure r.contribution member → most ≡ figure r.requirement member
+found : (r : Register) (member amount held most : ℕ) {answer : Result (Unit {0}) Refusal} → GivenBack r → held ≡ figure r.contribution member
+    → most ≡ figure r.requirement member
     → answer ≡ answered (standing r.status member (check (unfit amount (most - held)) (Some Refusal.UnfitReplenishment) None)) (tt {0})
     → answer ≡ answered (replenishment_refusal r member amount) (tt {0})
 unfolding replenishment_refusal
@@ -36,7 +37,8 @@ returns-in_err-amount_admission c =
     let a = c.args in
     let e = err_from_is_err_and c.from_residual.result c.from_residual.ensures.1 in
     let f = found (seen c.self.inside) a.member a.amount _ _ c.self.invariant c.figure_of-standing.ensures c.figure_of.ensures c.amount_admission.ensures in
-    let refusal : replenishment_refusal a.self.now a.member a.amount ≡ Some e.0 = rw (← c.self.view_is) (is_refused _ (sym f ∙ rw e.2 c.in_err-amount_admission.was)) in
+    let refusal : replenishment_refusal a.self.now a.member a.amount ≡ Some e.0 = rw (← c.self.view_is)
+    (is_refused _ (sym f ∙ rw e.2 c.in_err-amount_admission.was)) in
     let call = refused_call a.self.now (replenished_of a.self.now a.member a.amount) refusal in
     rw e.1 (record { answer = call.0; register_after = call.1 })
 
@@ -44,10 +46,12 @@ returns-in_err-amount_admission c =
 module _ (c : In_ok-amount_admission) where
   unrefused : replenishment_refusal (seen c.self.inside) c.args.member c.args.amount ≡ None
   unrefused =
-      let f = found (seen c.self.inside) c.args.member c.args.amount _ _ c.self.invariant c.figure_of-standing.ensures c.figure_of.ensures c.amount_admission.ensures in
+      let f = found (seen c.self.inside) c.args.member c.args.amount _ _ c.self.invariant c.figure_of-standing.ensures c.figure_of.ensures
+      c.amount_admission.ensures in
       is_passed _ (sym f ∙ c.in_ok-amount_admission.was)
 
-  fits : Fit c.args.member (eqb c.args.amount 0 || ltb (figure c.self.inside.requirement c.args.member) (figure c.self.inside.contribution c.args.member + c.args.amount))
+  fits : Fit c.args.member (eqb c.args.amount 0 || ltb (figure c.self.inside.requirement c.args.member)
+      (figure c.self.inside.contribution c.args.member + c.args.amount))
   unfolding replenishment_refusal
   fits = fit _ c.args.member Refusal.UnfitReplenishment _ c.self.invariant unrefused
 
@@ -56,7 +60,13 @@ module _ (c : In_ok-amount_admission) where
 
   -- the raised contribution is an amount
   raised : c.figure_of-standing.result + c.args.amount ≤ amount_limit
-  raised = omega (arith, c.figure_of-standing.ensures, within, figure_bound c.self.inside.requirement amount_limit c.self.invariant.requirement_fits c.args.member)
+  raised = omega (
+    arith,
+    c.figure_of-standing.ensures,
+    within,
+    figure_bound c.self.inside.requirement amount_limit c.self.invariant.requirement_fits
+        c.args.member,
+  )
 
 pub overflow_add-standing : goal.overflow_add-standing
 overflow_add-standing c = omega (arith, raised (goal.at.overflow_add-standing c).In_ok-amount_admission)
@@ -69,7 +79,8 @@ replace-requires c =
 pub invariant_of-self : goal.invariant_of-self
 unfolding replenished_of
 invariant_of-self c =
-    rw (c.replace.ensures, c.figure_of-standing.ensures) (given-replenished _ c.self.invariant c.args.member c.args.amount (within (goal.at.invariant_of-self c).In_ok-amount_admission))
+    rw (c.replace.ensures, c.figure_of-standing.ensures)
+    (given-replenished _ c.self.invariant c.args.member c.args.amount (within (goal.at.invariant_of-self c).In_ok-amount_admission))
 
 pub returns : goal.returns
 unfolding replenishment_of replenished_of

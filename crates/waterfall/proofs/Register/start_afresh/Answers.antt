@@ -13,7 +13,8 @@ use Rattle.waterfall.proofs.Register.start_afresh.Goals as goal
 pub returns-then-owing : goal.returns-then-owing
 unfolding close_of close_refusal
 returns-then-owing c =
-    let found : close_refusal c.args.self.now ≡ Some Refusal.CallOutstanding = rw (← c.self.view_is) (sym (check_yes _ _ _ _ c.owing.ensures c.if-owing.true refl)) in
+    let found : close_refusal c.args.self.now ≡ Some Refusal.CallOutstanding = rw (← c.self.view_is)
+    (sym (check_yes _ _ _ _ c.owing.ensures c.if-owing.true refl)) in
     let call = refused_call c.args.self.now (closed_of c.args.self.now) found in
     record { answer = call.0; register_after = call.1 }
 

@@ -6,7 +6,13 @@ use Rattle.waterfall.proofs.opening.entered.Goals as goal
 pub invariant_of-result : goal.invariant_of-result
 invariant_of-result c =
     rw c.statuses.ensures
-    (given-entered (record { present = c.columns.inside.present; first = c.columns.inside.first; second = c.columns.inside.second; third = c.columns.inside.third }) c.args.own
+    (given-entered (record {
+      present = c.columns.inside.present;
+      first = c.columns.inside.first;
+      second = c.columns.inside.second;
+      third =
+          c.columns.inside.third;
+    }) c.args.own
     (record {
       present-length = search rules;
       first-length = search rules;

@@ -13,12 +13,14 @@ module _ (refusal : Option Refusal) (opened : Register) where
   abbrev Opening : Opened → Type 0
   Opening o = o ≡ record { refusal = refusal; register = check (is_some refusal) empty_register opened }
 
-accepts : (refusal : Option Refusal) (opened register : Register) → Ok register ≡ answered refusal opened → Opening refusal opened (record { refusal = None; register = register })
+accepts : (refusal : Option Refusal) (opened register : Register) → Ok register ≡ answered refusal opened
+    → Opening refusal opened (record { refusal = None; register = register })
 unfolding check
 accepts (Some f) opened register e = absurd (cc)
 accepts None opened register e = cc
 
-refuses : (refusal : Option Refusal) (opened : Register) (found : Refusal) → Err found ≡ answered refusal opened → Opening refusal opened (record { refusal = Some found; register = empty_register })
+refuses : (refusal : Option Refusal) (opened : Register) (found : Refusal) → Err found ≡ answered refusal opened
+    → Opening refusal opened (record { refusal = Some found; register = empty_register })
 unfolding check
 refuses (Some f) opened found e = cc
 refuses None opened found e = absurd (cc)

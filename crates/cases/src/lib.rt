@@ -122,13 +122,11 @@ pub fn bytes<'a>(room: &'a mut [u8], digits: &[u8]) -> &'a [u8]
     ensures { length result.now ≤ length room.old }
 {
     let mut digits = digits.iter().filter_map(digit);
-    let mut count = 0;
-    for place in &mut *room {
+    for (count, place) in room.iter_mut().enumerate() {
         let (Some(high), Some(low)) = (digits.next(), digits.next()) else {
-            break;
+            return &room[..count];
         };
         *place = high << 4 | low;
-        count += 1;
     }
-    &room[..count]
+    room
 }

@@ -6,7 +6,7 @@ use Rattle.lists.specs.Checks.{check}
 use Rattle.lists.specs.Texts.{ascii}
 use Rattle.indian_digits.specs.IndianDigits.{indian_of}
 use Rattle.refusal.specs.declared.Refusal.{Refusal}
-use Rattle.layers.specs.declared.Allocation.{Allocation}
+use Rattle.waterfall.specs.declared.Allocation.{Allocation}
 
 -- n spaces
 abbrev pub spaces : ℕ → List ℕ
@@ -74,5 +74,6 @@ page_left a page = check (is_some (page_refusal a (length page))) page (page_of 
 -- may print alike": theorem `no_two_alike` in proofs/Theorem.antt.
 abbrev pub PrintAlike : Allocation → List ℕ → Allocation → List ℕ → Type 0
 PrintAlike a page b other =
-    (page_refusal a (length page) ≡ None) × (page_refusal b (length other) ≡ None)
+    (page_refusal a (length page) ≡ None)
+    × (page_refusal b (length other) ≡ None)
     × (take page_length (page_left a page) ≡ take page_length (page_left b other))

@@ -8,7 +8,7 @@ ghost use Rattle.std.specs.Prelude.{◌≡◌};
 
 use crate::fold::fold;
 use admission::Pools;
-use lists::RANK_LIMIT;
+use lists::RANKS;
 use rows::Record;
 use waterfall::opening::open;
 use waterfall::{Allocation, Outcome, Register, Reply};
@@ -17,7 +17,6 @@ const OWN: u64 = 1_000_003;
 
 const DEFAULTER: u64 = 17;
 
-const RANKS: usize = RANK_LIMIT as usize;
 
 // 777,777 less than what layers 1 to 4 have.
 const IN_LAYER_4: u64 = 64_411_573;

@@ -136,6 +136,13 @@ pub fn total(amounts: &[u64]) -> u64
     amounts.iter().sum()
 }
 
+// Amounts in the size of sums. By index: see `pools::portions_of`.
+pub fn widened(amounts: &[u32; 64]) -> [u64; 64]
+    ensures { result ≡ amounts.now }
+{
+    array::from_fn(|i| u64::from(amounts[i]))
+}
+
 // The figures put into a lent buffer from `start` on.
 pub fn write(lent: &mut [u64], start: usize, figures: &[u64; 64])
     requires { start + member_limit ≤ length lent.old }

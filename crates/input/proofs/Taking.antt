@@ -3,7 +3,7 @@ use Rattle.std.proofs.Common.{ℕ, ◌+◌, ◌-◌, ◌≤◌, ◌≡◌, ◌�
 use Rattle.std.specs.Io.{StartsWith}
 use Rattle.std.proofs.lemmas.List.{take_min, drop-take, drop-drop, drop_min}
 use lib.Seq.{take-take}
-use Rattle.input.specs.Lines.{part}
+use Rattle.words.specs.Bytes.{part}
 
 -- what stands behind a line and its newline, where the last line may have none
 pub behind : (bytes : List ℕ) (from have n : ℕ) → have ≤ length bytes → from + n ≤ have

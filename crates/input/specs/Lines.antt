@@ -4,10 +4,6 @@ use Rattle.std.specs.Borrow.{Bor}
 use Rattle.std.specs.List.{position}
 use Rattle.words.specs.declared.Unreadable.{Unreadable}
 
--- the bytes of s from start to end, as far as there are any
-abbrev pub part : List ℕ → ℕ → ℕ → List ℕ
-part s start end = take (end - start) (drop start s)
-
 -- where the input has ended, the last line may have no newline
 abbrev pub or_last : Bool → List ℕ → Option ℕ → Option ℕ
 or_last ended bytes (Some n) = Some n

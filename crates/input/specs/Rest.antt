@@ -1,5 +1,5 @@
 -- What is read of an input, by the fields of its lines.
-use Rattle.input.specs.Lines.{part}
+use Rattle.words.specs.Bytes.{part}
 use Rattle.input.specs.Reading.{Reading}
 use Rattle.input.specs.declared.Lines.TheInside.{Inside}
 

@@ -7,13 +7,14 @@ ghost use Rattle.std.specs.Io.{StartsWith};
 ghost use Rattle.std.specs.Io.BufRead.{Rests};
 ghost use Rattle.std.specs.Borrow.{sem};
 ghost use Rattle.std.specs.List.{position};
-ghost use Rattle.input.specs.Lines.{part, length_of, IsNext};
+ghost use Rattle.words.specs.Bytes.{part as Bytes·part};
+ghost use Rattle.input.specs.Lines.{length_of, IsNext};
 ghost use Rattle.input.specs.Reading.{has_ended, kept_of, IsBehind};
 ghost use Rattle.std.specs.Option.{IfSome};
 
 use std::io::{self, Eprint, Input, Read};
 use std::marker::Model;
-use words::{Unreadable, find};
+use words::{Unreadable, find, part};
 
 /// A line may be so many bytes long. A longer one is unreadable as a whole.
 pub const LINE_LIMIT: usize = 4096;
@@ -37,13 +38,13 @@ impl State {
     }
 }
 
-// How long the line is that begins at `from`, where its end is read. A last line may have no newline.
+// How long the line is that begins at `from`, where its end is read. (Bytes, from and have in no struct: `Lines` has them among its fields.) A last line may have no newline.
 fn line_length(bytes: &[u8], from: usize, have: usize, ended: bool) -> Option<usize>
     requires { (from ≤ have) × (have ≤ length bytes.now) }
-    ensures value { result ≡ length_of ended (part bytes.now from have) }
+    ensures value { result ≡ length_of ended (Bytes·part bytes.now from have) }
     ensures within { IfSome result (λ n. from + n ≤ have) }
 {
-    let bytes = &bytes[from..have];
+    let bytes = part(bytes, from, have);
     match find(bytes, b'\n') {
         None if ended && !bytes.is_empty() => Some(bytes.len()),
         found => found,
@@ -63,7 +64,7 @@ fn close_up(bytes: &mut [u8], from: usize, count: usize)
 fn keep(bytes: &mut [u8], from: usize, have: usize) -> usize
     requires { (from ≤ have) × (have ≤ length bytes.old) }
     ensures count { result ≡ min (have - from) 4097 }
-    ensures front { take result bytes.new ≡ take 4097 (part bytes.old from have) }
+    ensures front { take result bytes.new ≡ take 4097 (Bytes·part bytes.old from have) }
 {
     let kept = (have - from).min(LINE_LIMIT + 1);
     close_up(bytes, from, kept);

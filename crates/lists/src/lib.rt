@@ -1,5 +1,5 @@
 // The limits of document 01 and of the requests of document 02 as the code names them. The contracts name them by specs/Limits, so a number that differs
-// is refused.
+// is refused. (The missing rank is a number in clauses, and the rooms of sheets stand in none.)
 // Money is whole thousands of rupees.
 #![tactic(auto)]
 
@@ -11,6 +11,9 @@ pub const LAST_MEMBER: u64 = MEMBER_LIMIT as u64;
 
 // "1 is most senior, 64 most junior"; document 02, request 2: "The limit of 64 becomes 24 in refusal 15"
 pub const RANK_LIMIT: u8 = 24;
+
+// the same, as how many ranks there are
+pub const RANKS: usize = RANK_LIMIT as usize;
 
 // "255 missing"
 pub const MISSING_RANK: u8 = 255;

@@ -2,9 +2,9 @@
 // `status` is that of the members once the defaulter is in default, so that the live ones are the others.
 #![tactic(auto)]
 
-ghost use Rattle.std.specs.Prelude.{◌≡◌, ℕ, ◌≤◌, ◌<◌, length, get_or};
+ghost use Rattle.std.specs.Prelude.{◌≡◌, ◌≤◌, ◌<◌, length};
 ghost use Rattle.lists.specs.Limits.{member_limit, pool_limit, amount_limit, allocation_limit};
-ghost use Rattle.lists.specs.Sums.{total, keep};
+ghost use Rattle.lists.specs.Sums.{AtMost, total, keep};
 ghost use Rattle.split.specs.Split.{share_of};
 ghost use Rattle.ranks.specs.Ranks.{charges_of};
 ghost use Rattle.figures.specs.Figures.{live_in};
@@ -12,13 +12,14 @@ ghost use Rattle.rooms.specs.Rooms.{rooms};
 ghost use Rattle.pools.specs.Pools.{losses_after, joined_pool, sums_of, charges_by_pools};
 ghost use Rattle.pools.specs.Parts.{Charges, Chargeable, Poolable, Divided, Divisible, PoolCharged, Tiable, Tied, shares};
 
-use figures::{Status, add_to, of_live, take_from, total};
+use figures::{Status, add_to, of_live, take_from, total, widened};
 use ranks::{Charged, charge_by_rank};
 use rooms::share_rooms;
 use split::share;
 use std::array;
 
 // What is left of the contributions and of the pools' sums once some pools have their portions, what these charge, and its total.
+// Lists by member: each is taken from, added to and shared over as a whole.
 #[derive(Drop)]
 struct Division {
     left: [u32; 64],
@@ -64,7 +65,8 @@ fn charge_others(status: &[Status; 64], contribution: &[u32; 64], sum: u64, rank
     requires chargeable { Chargeable status.now contribution.now ranks.now }
     ensures { Charges (charges_of sum (keep (live_in status.now) contribution.now) ranks.now) contribution.now result }
 {
-    // "Only ranks of live members other than the defaulter are read": the others' count as 0, which is no rank.
+    // "Only ranks of live members other than the defaulter are read": the others' count as 0, which is no rank. (Bytes, and no
+    // options, as in `ranks::Ranked`.)
     let read = of_live(status, ranks, 0);
     charge_by_rank(sum, contribution, &read)
 }
@@ -82,20 +84,14 @@ fn portion(left: u32, sum: u64, rest: u64) -> u32
 
 // A pool's portions of what is left of the contributions. The last pool with a sum has all of it, without a division.
 fn portions_of(left: [u32; 64], sum: u64, rest: u64) -> [u32; 64]
-    requires { ((k : ℕ) → get_or left k 0 ≤ amount_limit) × (0 < sum) × (sum ≤ rest) × (rest ≤ allocation_limit) }
+    requires { AtMost left amount_limit × (0 < sum) × (sum ≤ rest) × (rest ≤ allocation_limit) }
     ensures { result ≡ shares sum rest left }
 {
     if sum == rest {
         return left;
     }
-    // By index here and in `widened`: by `map`, which proved, a default of four pools took 27,617 instructions, where it took 18,256.
+    // By index here and in `figures::widened`: by `map`, which proved, a default of four pools took 27,617 instructions, where it took 18,256.
     array::from_fn(|i| portion(left[i], sum, rest))
-}
-
-fn widened(amounts: &[u32; 64]) -> [u64; 64]
-    ensures { result ≡ amounts.now }
-{
-    array::from_fn(|i| u64::from(amounts[i]))
 }
 
 impl Division {

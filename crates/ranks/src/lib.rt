@@ -11,10 +11,10 @@ ghost use Rattle.split.specs.Split.{split_of, exceeds};
 ghost use Rattle.ranks.specs.Ranks.{at_rank, charges_of};
 ghost use Rattle.ranks.specs.Parts.{Weighed, Totals, Passed, Next, Marginal, Shared, Answers, chosen_by, above_rank};
 
-use lists::RANK_LIMIT;
+use lists::{RANK_LIMIT, RANKS};
 
 // A place for each rank. Place 0 takes what has no rank, so that no loop tests for it.
-const RANKS: usize = RANK_LIMIT as usize + 1;
+const PLACES: usize = RANKS + 1;
 
 // The charges, their total, and whether one comes out above its weight.
 #[derive(Drop)]
@@ -47,7 +47,7 @@ struct Margin {
 }
 
 // The highest rank, `from` at most, whose total is above 0. Document 01's "Form by location" asks for this loop that yields it by break.
-fn next_rank(totals: &[u64; RANKS], from: u8) -> Option<u8>
+fn next_rank(totals: &[u64; PLACES], from: u8) -> Option<u8>
     requires { from ≤ rank_limit }
     ensures { MatchOption result (Passed totals.now 0 from) (Next totals.now from) }
 {
@@ -65,13 +65,13 @@ fn next_rank(totals: &[u64; RANKS], from: u8) -> Option<u8>
 
 impl Ranked<'_> {
     // The weights added up by rank. What has no rank, 0, adds to place 0, which nobody reads.
-    fn totals(&self) -> [u64; RANKS]
+    fn totals(&self) -> [u64; PLACES]
         ensures { Totals result self.now.weights.now self.now.ranks.now }
     {
         // Both are copied first: the checker follows no slice that is lent through a field which is a reference.
         let weights = self.weights;
         let ranks = self.ranks;
-        let mut totals = [0u64; RANKS];
+        let mut totals = [0u64; PLACES];
         for (&weight, &rank) in weights.iter().zip(ranks) {
             totals[usize::from(rank)] += u64::from(weight);
         }
@@ -131,8 +131,7 @@ impl Ranked<'_> {
 }
 
 impl Margin {
-    // What the rank gives, shared over its members' weights: the shares, and whether one comes out above its weight. Where the rank gives nothing,
-    // nothing is split.
+    // What the rank gives, shared over its members' weights: the shares, and the flag of the split. Where the rank gives nothing, nothing is split.
     #[tactic(auto, using(crate::proofs::Parts::unshared, crate::proofs::Parts::shares_asked, crate::proofs::Laws::length_at))]
     fn share(self, ranked: &Ranked) -> ([u64; 64], bool)
         requires { Shared self (at_rank self.rank ranked.now.weights.now ranked.now.ranks.now) }

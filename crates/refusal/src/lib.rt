@@ -79,7 +79,7 @@ impl Refusal {
         }
     }
 
-    /// The record's position; 0 where no record is meant.
+    /// The record's position; 0 where no record is meant. No Option: document 01 gives 0 there, and it is printed.
     pub fn position(self) -> usize
         ensures { result ≡ position_of self }
     {

@@ -50,12 +50,12 @@ pub struct Shared {
     pub requirements: [u64; 64],
 }
 
-// A column in the size of sums, as the split and the sum of a list take it.
+// A column in the size of sums, as the split and the sum of a list take it, and which its total fits.
 fn wide(column: &[u32; 64]) -> [u64; 64]
     ensures same { result ≡ column.now }
     ensures small { total result < 2 ^ 64 }
 {
-    column.map(u64::from)
+    figures::widened(column)
 }
 
 fn highest(numbers: &[u64; 64]) -> u64

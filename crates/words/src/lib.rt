@@ -1,9 +1,10 @@
-// The bytes of a line, and its words.
+// The bytes of a line: a part of them, and its words.
 #![tactic(auto)]
 
 ghost use Rattle.std.specs.Prelude.{◌≡◌, ◌==◌, ◌<◌, ◌^◌, ℕ, List, [], ◌∷◌, length, take, drop, MatchOption};
 ghost use Rattle.std.specs.List.{prefix_len, position};
 ghost use Rattle.std.specs.Option.{IfSome};
+ghost use Rattle.words.specs.Bytes.{part as Bytes·part};
 ghost use Rattle.words.specs.Words.{is_space, in_word, words_of};
 
 use std::marker::Model;
@@ -11,6 +12,15 @@ use std::marker::Model;
 /// A line that does not say what it should.
 #[derive(Clone, Copy, Debug, PartialEq, Eq)]
 pub struct Unreadable;
+
+/// The bytes from start to end, as far as there are any.
+pub fn part(s: &[u8], start: usize, end: usize) -> &[u8]
+    ensures { result.now ≡ Bytes·part s.now start end }
+{
+    let to = end.min(s.len());
+    let from = start.min(to);
+    &s[from..to]
+}
 
 /// The first place of a byte.
 pub fn find(s: &[u8], byte: u8) -> Option<usize>
@@ -21,7 +31,8 @@ pub fn find(s: &[u8], byte: u8) -> Option<usize>
 }
 
 fn spaces(line: &[u8]) -> usize
-    ensures { result ≡ prefix_len is_space line.now }
+    ensures value { result ≡ prefix_len is_space line.now }
+    ensures countable { length line.now < 2 ^ 64 }
 {
     line.iter().take_while(|b| **b == b' ').count()
 }
@@ -38,7 +49,8 @@ fn word_length(line: &[u8]) -> usize
 /// The line without the spaces in front.
 #[tactic(auto, using(crate::proofs::Cutting::prefix_within))]
 pub fn trim_start(line: &[u8]) -> &[u8]
-    ensures { result.now ≡ drop (prefix_len is_space line.now) line.now }
+    ensures value { result.now ≡ drop (prefix_len is_space line.now) line.now }
+    ensures countable { length line.now < 2 ^ 64 }
 {
     &line[spaces(line)..]
 }

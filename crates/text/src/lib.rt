@@ -1,5 +1,6 @@
 // A text of bounded length, to which bytes and numbers are put one behind the other. What is printed is put by functions, and not by Display: `write!`
-// answers a Result, and a text whose room is asked for cannot fail. How long a text may be is a number in its own contract, which no other function names.
+// answers a Result, and a text whose room is asked for cannot fail.
+// How long a text may become differs from text to text, so the function that puts it says so in its own contract.
 #![tactic(auto)]
 
 ghost use Rattle.std.specs.Prelude.{◌≡◌, ℕ, ◌+◌, ◌≤◌, ◌==◌, List, [], ◌++◌, length};
@@ -9,7 +10,7 @@ use arrayvec::ArrayVec;
 use itoa::Buffer;
 use std::marker::Model;
 
-/// A text of at most `N` bytes. A clause sees the bytes put so far, and asks for the room that a vector of the kit would answer an error for.
+/// A text of at most `N` bytes. A clause sees the bytes put so far. The kit's vector answers an error where it is full; here a clause asks for the room.
 #[derive(Drop)]
 pub struct Text<const N: usize> {
     bytes: ArrayVec<u8, N>,

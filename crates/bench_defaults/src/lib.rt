@@ -39,8 +39,8 @@ fn records() -> [[u8; 16]; 64] {
     std::array::from_fn(record)
 }
 
-fn fold_allocation(mut sum: u64, a: Allocation) -> u64 {
-    for number in [
+fn fold_allocation(sum: u64, a: Allocation) -> u64 {
+    let numbers = [
         a.margin,
         a.contribution,
         a.tranche1,
@@ -49,10 +49,8 @@ fn fold_allocation(mut sum: u64, a: Allocation) -> u64 {
         a.calls,
         a.fallen,
         a.short,
-    ] {
-        sum = fold(sum, number);
-    }
-    sum
+    ];
+    numbers.iter().fold(sum, |sum, number| fold(sum, *number))
 }
 
 fn fold_reply(sum: u64, reply: Reply) -> u64 {
@@ -68,7 +66,7 @@ fn fold_slip(sum: u64, slip: &[u64; 128], turn: u64) -> u64 {
     fold(fold(sum, slip[place]), slip[place + 64])
 }
 
-// The first pool's loss rises a little with the turn, so that no turn is like the one before.
+// The first pool's loss rises a little with the turn, so that no turn is like the one before. Register, pools and ranks one by one, as `declare` takes them.
 fn once(
     register: Register,
     pools: Pools,
@@ -146,6 +144,7 @@ fn ranks_of_four() -> [u8; 256] {
     std::array::from_fn(|place| rank((place / 64 + 1) * (place % 64 + 1)))
 }
 
+// 0, and no Option, where the default is refused: the clause of `measured` has that number for no turn, and the test of checksums tells it.
 fn run(pools: Pools, ranks: &[u8], turns: u64) -> u64
     ensures { (turns ≡ 0) → (result ≡ 0) }
 {

@@ -6,7 +6,7 @@ mod pages;
 mod sizings;
 
 use bench_defaults::{Case, measured};
-use files::{arg_count, number_at};
+use files::{arg_count, argument, number_at};
 use std::io::Eprint;
 use std::rt::{Env, Files};
 
@@ -25,9 +25,9 @@ fn checksum(rt: &(impl Env + Files + Eprint), case: &[u8], turns: u64) -> Option
 
 fn asked(rt: &(impl Env + Files + Eprint)) -> Option<u64> {
     let mut case = [0; 16];
-    let length = rt.arg(1, &mut case).ok()?;
+    let case = argument(rt, 1, &mut case)?;
     let turns = number_at(rt, 2)?;
-    checksum(rt, &case[..length], turns)
+    checksum(rt, case, turns)
 }
 
 fn main(rt: HostRuntime) {

@@ -12,18 +12,17 @@ const PREVAILING: u64 = 70_000_000;
 const AVAILABLE: u64 = 5_000_000;
 
 // The figures of a sizing, and its requirements.
-fn fold_sized(mut sum: u64, s: Sized, slip: &[u64; 64]) -> u64 {
-    for number in [
+fn fold_sized(sum: u64, s: Sized, slip: &[u64; 64]) -> u64 {
+    let figures = [
         s.cover, s.weak, s.target, s.minimum, s.highest, s.own, s.quantum,
-    ] {
-        sum = fold(sum, number);
-    }
-    for requirement in slip {
-        sum = fold(sum, *requirement);
-    }
-    sum
+    ];
+    figures
+        .iter()
+        .chain(slip)
+        .fold(sum, |sum, number| fold(sum, *number))
 }
 
+// The sheets one by one, as `size` takes them.
 fn once(turn: u64, stress: &[u8], shares: &[u8], slip: &mut [u64; 64]) -> Result<Sized, Refusal> {
     size(stress, shares, PREVAILING + turn % 8, AVAILABLE, slip)
 }

@@ -111,10 +111,13 @@ pub fn read_case(line: &[u8]) -> Option<Case<'_>>
     })
 }
 
-// The value of a hexadecimal digit.
+// The value of a hexadecimal digit. (No `to_digit`, which takes capitals too.)
 fn digit(byte: &u8) -> Option<u8> {
-    let value = char::from(*byte).to_digit(16)?;
-    Some(value as u8)
+    match *byte {
+        b'0'..=b'9' => Some(*byte - b'0'),
+        b'a'..=b'f' => Some(*byte - b'a' + 10),
+        _ => None,
+    }
 }
 
 /// The bytes that pairs of hexadecimal digits say, in the front of the room.

@@ -12,7 +12,7 @@ use std::{fs, io};
 // The system's number for a name that is too long. The kind of error of that name would be told in other words than the system's.
 const NAME_TOO_LONG: i32 = 36;
 
-// Writes a line to standard error: what failed, a colon and the reason.
+// Writes a line to standard error: what failed, a colon and the reason. (std's `from_utf8_lossy` asks for memory.)
 fn fail(rt: &impl Eprint, what: &[u8], why: io::Error) {
     for part in what.utf8_chunks() {
         let _ = rt.eprint(part.valid());
@@ -36,16 +36,24 @@ pub fn arg_count(rt: &impl Env) -> usize
     usize::MAX
 }
 
+/// An argument, where there is one and room for it. What it says fits the room, here and below: that is all that a caller can know of it.
+pub fn argument<'a>(rt: &impl Env, i: usize, room: &'a mut [u8]) -> Option<&'a [u8]>
+    ensures { IfSome result (λ word. length word.now ≤ length room.old) }
+{
+    let n = rt.arg(i, room).ok()?;
+    Some(&room[..n])
+}
+
 /// An argument as a number. Linux takes no longer argument than there is room for.
 pub fn number_at(rt: &impl Env, i: usize) -> Option<u64>
     ensures { IfSome result (λ v. v < 2 ^ 64) }
 {
     let mut word = [0u8; 131072];
-    let n = rt.arg(i, &mut word).ok()?;
-    numbers::read_number(&word[..n])
+    numbers::read_number(argument(rt, i, &mut word)?)
 }
 
-/// The last `N` of the program's arguments as numbers, where it was started with `count`, its own name among them, and each of these is a number.
+/// The last `N` of the program's arguments as numbers, where it was started with `count`, its own name among them, and each of these is a number. No
+/// contract can say which they are.
 pub fn numbers<const N: usize>(rt: &impl Env, count: usize) -> Option<[u64; N]>
     ensures { OnSome result (N ≤ count) }
 {

@@ -84,6 +84,7 @@ fn place(figures: Figures, estate: Estate, pools: Pools, ranks: &[u8]) -> Placed
     let fourth = charge_by_pools(sums, figures.status, figures.contribution, ranks);
     let fifth = layer(third.left - fourth.total, figures.tranche2);
     let sixth = share_rooms(figures.status, figures.cap, figures.called, fifth.left);
+    // Locals: the language does not take an array of one struct straight into the literal of another.
     let charges = fourth.charges;
     let called = sixth.shares;
     Placed {

@@ -68,7 +68,7 @@ fn read_pool(words: &mut Words) -> Option<Pool>
     Some(Pool { loss, ranks, more })
 }
 
-// The pools that are read, and the ranks of the first four.
+// The pools that are read, and the ranks of the first four: losses and ranks apart, since a call has the losses, and its ranks are lent beside it.
 #[derive(Clone, Copy)]
 struct Typed {
     pools: Pools,

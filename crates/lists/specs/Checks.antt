@@ -1,4 +1,4 @@
--- A row of checks: the first that holds gives the answer.
+-- A row of checks: the first that holds gives the answer. (std's `cond` by the name that the papers' rows are read with.)
 --
 --     check (first test) answer
 --     (check (second test) another

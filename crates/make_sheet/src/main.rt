@@ -64,9 +64,7 @@ fn make(rt: &(impl Input + Print + Eprint), kind: Kind) {
     let Some(sheet) = read_lines(rt, kind) else {
         return;
     };
-    if let Err(why) = rt.write_all(sheet.as_bytes()) {
-        let _ = eprintln!(rt; "standard output: {why}");
-    }
+    output::tell(rt, rt.write_all(sheet.as_bytes()));
 }
 
 // The kind of sheet that the only argument names.
@@ -75,8 +73,7 @@ fn kind(rt: &impl Env) -> Option<Kind> {
         return None;
     }
     let mut word = [0u8; 16];
-    let n = rt.arg(1, &mut word).ok()?;
-    kind_named(&word[..n])
+    kind_named(files::argument(rt, 1, &mut word)?)
 }
 
 fn main(rt: HostRuntime) {

@@ -4,7 +4,7 @@
 ghost use Rattle.std.specs.Prelude.{◌≡◌, ◌+◌, ◌≤◌, [], length};
 
 use std::io;
-use std::io::Print;
+use std::io::{Eprint, Print};
 use text::Text;
 
 /// Writes the text, and starts again with nothing, also where writing failed.
@@ -14,6 +14,13 @@ pub fn write_out<const N: usize>(rt: &impl Print, text: &mut Text<N>) -> io::Res
     let written = rt.write_all(text.as_bytes());
     text.clear();
     written
+}
+
+/// Says on standard error why standard output could not be written, where it could not.
+pub fn tell(rt: &impl Eprint, written: io::Result<()>) {
+    if let Err(why) = written {
+        let _ = eprintln!(rt; "standard output: {why}");
+    }
 }
 
 /// Writes the text where there is no room behind it for so many bytes.

@@ -5,9 +5,8 @@ ghost use Rattle.std.specs.Prelude.{◌≡◌, ◌+◌, ◌*◌, ◌≤◌, ◌+
 ghost use Rattle.print_answers.specs.Texts.{unreadable_text, allocation_text, charge_text, charges_text, reply_text};
 
 use lists::MEMBER_LIMIT;
-use refusal::Refusal;
 use text::Text;
-use waterfall::Allocation;
+use waterfall::{Allocation, Reply};
 
 /// Puts that a line of the drill is unreadable.
 #[tactic(auto, unfolding(crate::specs::Texts::unreadable_text))]
@@ -68,16 +67,13 @@ fn put_charges<const N: usize>(out: &mut Text<N>, slip: &[u64])
 }
 
 /// Puts a call's answer, with the slip that the call left.
-pub fn put_reply<const N: usize>(
-    out: &mut Text<N>,
-    reply: Result<Option<Allocation>, Refusal>,
-    slip: &[u64],
-)
+pub fn put_reply<const N: usize>(out: &mut Text<N>, reply: Reply, slip: &[u64])
     requires { (length out.old + 8192 ≤ N) × (128 ≤ length slip.now) }
     ensures bytes { out.new ≡ out.old ++ reply_text reply slip.now }
     ensures len { length out.new ≤ length out.old + 8192 }
 {
     match reply {
+        // Not `put_refusal`, which puts a record too: a call's refusal has none.
         Err(refusal) => {
             out.put_labelled(b"refused ", u64::from(refusal.number()));
             out.put(b"\n");

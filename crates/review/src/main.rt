@@ -17,7 +17,5 @@ fn main(rt: HostRuntime) {
         return;
     };
     let [cover, target] = numbers;
-    if let Err(why) = answer(&rt, sizing::review_due(cover, target)) {
-        let _ = eprintln!(&rt; "standard output: {why}");
-    }
+    output::tell(&rt, answer(&rt, sizing::review_due(cover, target)));
 }

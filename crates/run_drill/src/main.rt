@@ -12,7 +12,7 @@ use drill::DrillCall;
 use input::{Lines, State};
 use lines::{Line, NO_RANKS, handed, read_line};
 use lists::MEMBER_ROOM;
-use output::{make_room, write_out};
+use output::{make_room, tell, write_out};
 use print_answers::{put_reply, put_unreadable};
 use print_page::{latest_of, put_page};
 use print_refusal::put_opening;
@@ -126,7 +126,5 @@ fn main(rt: HostRuntime) {
     let Some(sheet) = files::read_sheet(&rt, 1, &mut room) else {
         return;
     };
-    if let Err(why) = Drill::open(sheet, own).run(&rt) {
-        let _ = eprintln!(&rt; "standard output: {why}");
-    }
+    tell(&rt, Drill::open(sheet, own).run(&rt));
 }

@@ -31,9 +31,7 @@ fn read_and_size(rt: &(impl Env + Files + Print + Eprint), prevailing: u64, avai
     let Some(shares) = read_sheet(rt, 2, &mut shares) else {
         return;
     };
-    if let Err(why) = size(rt, stress, shares, prevailing, available) {
-        let _ = eprintln!(rt; "standard output: {why}");
-    }
+    output::tell(rt, size(rt, stress, shares, prevailing, available));
 }
 
 fn main(rt: HostRuntime) {

@@ -61,7 +61,8 @@ fn filled(bytes: &[u8; 16]) -> bool
     marked(bytes) & (loss_to_end(bytes) <= AMOUNT_LIMIT)
 }
 
-// Whether the record is of the block of the record before.
+// Whether the record is of the block of the record before. (What stands before and the bytes are in no struct, here and below: the one is kept from record
+// to record, and the other lent by the sheet. What was tried of both is what each step asks.)
 pub fn same_block(before: &Option<Before>, bytes: &[u8; 16]) -> bool
     ensures same { result ≡ same_block before.now bytes.now }
     ensures tried { result ≡ true → block_beyond bytes.now ≡ false }

@@ -11,7 +11,6 @@ use Rattle.std.specs.Prelude.{Option, Some, None, is_none}
 use Rattle.lists.specs.Checks.{check}
 use Rattle.lists.specs.Limits.{member_limit, contribution_floor}
 use Rattle.refusal.specs.declared.Refusal.{Refusal}
-use Rattle.lists.proofs.Places.{map-set}
 use Rattle.sheets.specs.Bytes.{record_at}
 use Rattle.sheets.specs.Columns.{no_columns, entered, columns_from, columns_of}
 use Rattle.sheets.specs.Members.{member_at, first_at, second_at, third_at, record_of}
@@ -26,6 +25,7 @@ use Rattle.figures.proofs.Figures.{other_member, replaced_at, figure-none}
 use Rattle.waterfall.proofs.Entered.{accepts}
 use Rattle.drill.specs.Counting.{opening_accepted, figures_from, in_sheet, named, opening_sum, opening_margin, opening_contribution, sheet_cap}
 use Rattle.drill.specs.Counting.{opening_tranche1, opening_tranche2}
+use Rattle.std.proofs.lemmas.List.{map-set}
 
 -- a list of figures with those of n records put in, from record i on
 put : (List ℕ → ℕ) → ℕ → List ℕ → ℕ → List ℕ → List ℕ

@@ -4,7 +4,6 @@ use mathlib.Core.Path.{◌≡◌, refl, ap, ◌∙◌}
 use mathlib.Core.Bool.{false, cond, ◌&&◌}
 use mathlib.Core.List.{List, [], ◌∷◌, ◌++◌}
 use native.Mathlib.Omega.{arith}
-use Rattle.lists.proofs.Checks.{neither}
 use Rattle.figures.specs.Figures.{figure, status_at}
 use Rattle.figures.specs.declared.Status.{Status}
 use Rattle.waterfall.specs.Register.{Register, GivenBack}
@@ -17,6 +16,7 @@ use Rattle.drill.specs.declared.DrillCall.TheVariants.{Default, Payment, Repleni
 use Rattle.drill.proofs.Laws.{StepLaws}
 use Rattle.drill.proofs.Calls.{payment_laws, replenishment_laws, close_laws}
 use Rattle.drill.proofs.Defaults.{default_laws}
+use Rattle.std.proofs.lemmas.Bool.{or_parts}
 
 -- each event keeps the laws on the register that the one before gave back
 abbrev pub Run : Register → List Event → Type 0
@@ -110,7 +110,7 @@ module _ (after : List Event) where
   unfolding last_register defaulted
   last-live m [] r s d run = s
   last-live m (b ∷ before) r s d run =
-      let n = neither (accepted b && defaults b.call m) (defaulted m before) d in
+      let n = or_parts (accepted b && defaults b.call m) (defaulted m before) d in
       last-live m before b.register (run.0.stays-live m s n.0) n.1 run.1
 
 -- who is in default stays so

@@ -7,7 +7,6 @@ use mathlib.Core.List.{List, [], ◌∷◌, ◌++◌, append_assoc}
 use native.Mathlib.Omega.{arith}
 use borrow.Author.Tests.{not-true}
 use Rattle.lists.specs.Limits.{rank_limit}
-use Rattle.lists.proofs.Checks.{both}
 use Rattle.waterfall.specs.Opening.{opened_of}
 use Rattle.figures.specs.Figures.{figure, status_at}
 use Rattle.figures.specs.declared.Status.{Status}
@@ -23,6 +22,7 @@ use Rattle.drill.specs.declared.DrillCall.TheVariants.{Default}
 use Rattle.drill.proofs.Laws.{in_order}
 use Rattle.drill.proofs.Runs.{Run, trace_runs, totals, next_laws, last-given, last_cap, last-called, last-live, last_of, ever_after}
 use Rattle.drill.proofs.Opening.{opens}
+use Rattle.std.proofs.lemmas.Bool.{and_parts}
 
 module _ (sheet : List ℕ) (g : ℕ) (steps : List Step) where
   abbrev opened : Register
@@ -41,8 +41,8 @@ module _ (sheet : List ℕ) (g : ℕ) (steps : List Step) where
   counted-live : (before after : List Event) → Run opened (before ++ after) → (m : ℕ) → live_after sheet g before m ≡ true
       → status_at (last_register opened before).status m ≡ Status.Live
   counted-live before after r m l =
-      let a = both (opening_accepted sheet g && named sheet m) (not (defaulted m before)) l in
-      let b = both (opening_accepted sheet g) (named sheet m) a.0 in
+      let a = and_parts (opening_accepted sheet g && named sheet m) (not (defaulted m before)) l in
+      let b = and_parts (opening_accepted sheet g) (named sheet m) a.0 in
       last-live after m before opened ((opens sheet g).status m b.0 b.1) (not-true (defaulted m before) a.1) r
 
   counted-called : (before after : List Event) → Run opened (before ++ after) → (m : ℕ)

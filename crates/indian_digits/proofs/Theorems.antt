@@ -10,12 +10,13 @@ use lib.ListN.{length, length-append}
 use Rattle.lists.specs.Checks.{check}
 use Rattle.lists.specs.Limits.{printed_limit}
 use Rattle.lists.specs.Texts.{ascii}
-use Rattle.lists.proofs.Checks.{check_by, both}
+use Rattle.lists.proofs.Checks.{check_by}
 use Rattle.numbers.specs.Numbers.{is_digit, all_digits, read_of, decimal_of}
 use Rattle.std.specs.Prelude.{Some}
 use Rattle.numbers.proofs.Decimal.{decimal-few, decimal_all}
 use Rattle.numbers.proofs.Theorems.{read_print}
 use Rattle.indian_digits.specs.IndianDigits.{comma_before, with_commas, indian_of}
+use Rattle.std.proofs.lemmas.Bool.{and_parts}
 
 -- the digits among the bytes of a text
 unfoldable pub digits_in : List ℕ → List ℕ
@@ -31,7 +32,7 @@ commas_dropped : (ds : List ℕ) → all_digits ds ≡ true → digits_in (with_
 unfolding digits_in with_commas check
 commas_dropped [] h = refl
 commas_dropped (d ∷ ds) h =
-    let e = both (is_digit d) (all_digits ds) h in
+    let e = and_parts (is_digit d) (all_digits ds) h in
     rw (e.0, no_comma (comma_before (length ds)) (with_commas ds), commas_dropped ds e.1)
 
 -- the printed amount gives the number back
@@ -43,7 +44,7 @@ amount_back n h = rw (commas_dropped (decimal_of n) (decimal_all n)) (read_print
 comma-length : (k : ℕ) → length (check (comma_before k) (ascii ",") []) ≤ k % 2
 comma-length k =
     check_by (λ (s : List ℕ). length s ≤ k % 2) (comma_before k) _ _
-    (λ e. omega (arith, eqb-true (k % 2) 1 (both (leb 3 k) (eqb (k % 2) 1) e).1))
+    (λ e. omega (arith, eqb-true (k % 2) 1 (and_parts (leb 3 k) (eqb (k % 2) 1) e).1))
     (λ e. omega arith)
 
 commas-length : (ds : List ℕ) → length (with_commas ds) ≤ length ds + length ds / 2

@@ -64,20 +64,10 @@ pub check_skip : {A : Type 0} (t : Bool) (a b c : A) → t ≡ false → b ≡ c
 unfolding check
 check_skip t a b c e h = rw e h
 
--- where one of two tests or the other would hold and none does, neither does
-pub neither : (a b : Bool) → (a || b) ≡ false → (a ≡ false) × (b ≡ false)
-neither true b e = absurd (true≢false e)
-neither false b e = (refl, e)
-
 -- a test that fails when joined to a true one fails itself
 pub and_right : (a b : Bool) → a ≡ true → (a && b) ≡ false → b ≡ false
 and_right true b p e = e
 and_right false b p e = absurd (false≢true p)
-
--- where two tests hold together, each does
-pub both : (a b : Bool) → (a && b) ≡ true → (a ≡ true) × (b ≡ true)
-both true b e = (refl, e)
-both false b e = absurd (false≢true e)
 
 -- A test that is made at each place, and holds where it holds at one: `f` is what was found so far, and `here` what holds from this place on.
 pub any_turn : (f u t here rest whole : Bool) → u ≡ t → here ≡ (t || rest) → (f || here) ≡ whole → ((f || u) || rest) ≡ whole

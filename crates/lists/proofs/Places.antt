@@ -19,12 +19,6 @@ set_all P (x ∷ xs) zero v h p (suc k) = h (suc k)
 set_all P (x ∷ xs) (suc i) v h p zero = h zero
 set_all P (x ∷ xs) (suc i) v h p (suc k) = set_all (λ n y. P (suc n) y) xs i v (λ n. h (suc n)) p k
 
--- a place of a list replaced, and what a function makes of it
-pub map-set : {A B : Type 0} (f : A → B) (xs : List A) (i : ℕ) (x : A) → map f (set xs i x) ≡ set (map f xs) i (f x)
-map-set f [] i x = refl
-map-set f (y ∷ ys) zero x = refl
-map-set f (y ∷ ys) (suc i) x = ap (λ zs. f y ∷ zs) (map-set f ys i x)
-
 -- a function that changes no number changes no list
 pub map_same : (f : ℕ → ℕ) → ((x : ℕ) → f x ≡ x) → (xs : List ℕ) → map f xs ≡ xs
 map_same f h [] = refl

@@ -22,10 +22,6 @@ get_or-le-total (x ∷ xs) (suc k) = omega (arith, get_or-le-total xs k)
 pub get_or-none : (xs : List ℕ) → total xs ≡ 0 → (k : ℕ) → get_or xs k 0 ≡ 0
 get_or-none xs e k = omega (arith, get_or-le-total xs k)
 
--- one place of a list that is added up from place i on
-pub total_step : (xs : List ℕ) (i : ℕ) → i < length xs → total (drop i xs) ≡ get_or xs i 0 + total (drop (i + 1) xs)
-total_step xs i h = rw (add-one, drop-cons xs i 0)
-
 pub total_zeros : (n : ℕ) → total (replicate n 0) ≡ 0
 total_zeros zero = refl
 total_zeros (suc n) = omega (arith, total_zeros n)

@@ -11,7 +11,8 @@ use Rattle.lists.specs.Checks.{check}
 use Rattle.lists.proofs.Checks.{check-true, check-false}
 use Rattle.numbers.specs.Numbers.{value_from, all_digits, is_digit, read_of}
 use Rattle.std.specs.Prelude.{Option, Some, None}
-use Rattle.lists.proofs.Cases.{and-false, drop_next}
+use Rattle.std.proofs.lemmas.List.{drop_more}
+use Rattle.std.proofs.Math.Bool.{and-false}
 
 -- what the digits s make behind the value v
 abbrev pub read_from : ℕ → List ℕ → Option ℕ
@@ -34,12 +35,12 @@ done s v i h k = rw (drop_of_length-le s h) (sym (check-true _ _ (ltb v (2 ^ 64)
 -- a digit goes into the value
 pub digit : (s : List ℕ) (v i : ℕ) → i < length s → is_digit (get_or s i 0) ≡ true
     → read_from v (drop i s) ≡ read_from (v * 10 + (get_or s i 0 - 48)) (drop (i + 1) s)
-digit s v i h p = rw (drop_next s i h, p) refl
+digit s v i h p = rw (drop_more s i 0 h, p) refl
 
 -- a byte that is no digit
 pub other : (s : List ℕ) (v i : ℕ) → i < length s → is_digit (get_or s i 0) ≡ false → read_from v (drop i s) ≡ None
 unfolding check
-other s v i h e = rw (drop_next s i, e)
+other s v i h e = rw (drop_more s i 0, e)
 
 -- more digits make no less
 grows : (v : ℕ) (s : List ℕ) → v ≤ value_from v s

@@ -4,10 +4,10 @@ use mathlib.Core.Path.{◌≡◌, refl}
 use mathlib.Core.Bool.{false, not}
 use mathlib.Core.List.{List, [], ◌∷◌, ◌++◌}
 use Rattle.lists.specs.Checks.{check}
-use Rattle.lists.proofs.Cases.{and-false}
 use Rattle.numbers.specs.Numbers.{is_digit, all_digits, is_empty, read_of, decimal_of}
 use Rattle.std.specs.Prelude.{Some, None}
 use Rattle.numbers.proofs.Decimal.{read_printed}
+use Rattle.std.proofs.Math.Bool.{and-false}
 
 -- a number that is printed is read back
 pub read_print : (n : ℕ) → n < 2 ^ 64 → read_of (decimal_of n) ≡ Some n

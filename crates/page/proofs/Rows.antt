@@ -10,7 +10,7 @@ use lib.ListN.{length, drop, set, length-append}
 use Rattle.lists.specs.Limits.{printed_limit}
 use Rattle.lists.specs.Checks.{check}
 use Rattle.lists.specs.Texts.{ascii}
-use Rattle.lists.proofs.Checks.{check_past, neither}
+use Rattle.lists.proofs.Checks.{check_past}
 use Rattle.layers.specs.declared.Allocation.{Allocation}
 use Rattle.std.proofs.Math.ListN.{drop_of_length-le}
 use Rattle.std.proofs.Common.{append-nil, take, ap, take_at, drop_at}
@@ -22,6 +22,7 @@ use Rattle.refusal.specs.Refusal.{answered}
 use Rattle.refusal.specs.declared.Refusal.{Refusal}
 use Rattle.page.specs.Parts.{Within}
 use Rattle.page.specs.Page.{spaces, left_aligned, right_aligned, row_of, heading, line, page_of, page_length, amounts_of, any_above, page_refusal, page_left}
+use Rattle.std.proofs.lemmas.Bool.{or_parts}
 
 pub line-length : (row : List ℕ) → length (line row) ≡ length row + 1
 unfolding line
@@ -47,7 +48,7 @@ row-line-length name n h k = omega (arith, line-length (row_of name n), row-leng
 -- the amounts of an answer that is not refused
 one-within : (n : ℕ) (others : List ℕ) → any_above printed_limit (n ∷ others) ≡ false → (n ≤ printed_limit) × (any_above printed_limit others ≡ false)
 one-within n others e =
-    let f = neither (ltb printed_limit n) (any_above printed_limit others) e in
+    let f = or_parts (ltb printed_limit n) (any_above printed_limit others) e in
     (ltb-false printed_limit n f.0, f.1)
 
 pub amounts-within : (a : Allocation) → any_above printed_limit (amounts_of a) ≡ false → Within a
@@ -72,7 +73,7 @@ amounts-within a e =
 pub within : (a : Allocation) (size : ℕ) → page_refusal a size ≡ None → (page_length ≤ size) × Within a
 unfolding page_refusal
 within a size e =
-    let f = neither (ltb size page_length) _ (check_past _ (Some Refusal.Unprintable) None (λ q. cc) e).0 in
+    let f = or_parts (ltb size page_length) _ (check_past _ (Some Refusal.Unprintable) None (λ q. cc) e).0 in
     (ltb-false size page_length f.0, amounts-within a f.1)
 
 pub none_above : (a : Allocation) → Within a → any_above printed_limit (amounts_of a) ≡ false

@@ -11,7 +11,7 @@ use Rattle.std.specs.Simd.{first_chunks}
 use Rattle.lists.specs.Limits.{member_limit, rank_limit, amount_limit}
 use Rattle.lists.specs.Sums.{total, plus, minus, keep}
 use Rattle.lists.proofs.Places.{map_same}
-use Rattle.lists.proofs.Sums.{total_step, total_zeros, single, length-keep, get_or-keep, keep-le, keep-keep, keep-minus, kept_mark, mark-within}
+use Rattle.lists.proofs.Sums.{total_zeros, single, length-keep, get_or-keep, keep-le, keep-keep, keep-minus, kept_mark, mark-within}
 use Rattle.split.specs.Split.{share_of, split_of}
 use Rattle.split.proofs.Laws.{exceeds-none}
 use Rattle.ranks.specs.Ranks.{charges_of}
@@ -28,6 +28,7 @@ use Rattle.pools.specs.Parts.{Charges, Chargeable, Poolable, Divided, Divisible,
 use Rattle.pools.specs.declared.Division.{Division}
 use Rattle.pools.proofs.Laws.{portion-none, portion_turn, undivided_turn, up_to-within, up_to-placed, length_up_to, pooled-within, pooled-placed}
 use Rattle.pools.proofs.Laws.{by-pools-within, one_pool_lem}
+use Rattle.std.proofs.lemmas.List.{at_drop_more}
 
 -- lists that are taken from one list place by place -------------------------------------
 
@@ -98,7 +99,7 @@ module _ (sums : List ℕ) (status : List Status) (contribution ranks : List ℕ
     pub divisible : Divisible (get_or sums p 0) status (pool_ranks ranks p) d
     divisible =
         record {
-          sum_fits = omega (arith, i.rest_is, total_step sums p h);
+          sum_fits = omega (arith, i.rest_is, at_drop_more total sums p 0 h);
           rest_fits = omega (arith, i.rest_is, up_to-placed sums weights ranks p (omega arith), c.sums_fit);
           chargeable =
               record {
@@ -139,7 +140,7 @@ module _ (sums : List ℕ) (status : List Status) (contribution ranks : List ℕ
               ∙ ap (λ (xs : List ℕ). minus xs (shares (get_or sums p 0) d.rest xs)) i.left_is
               ∙ minus-shares (undivided p sums) (undivided (suc p) sums) (get_or sums p 0) d.rest
               (λ w. ap (λ (x : ℕ). undivided p sums w - x) (turn_of w) ∙ sym (undivided_turn p sums w h)) contribution;
-          rest_is = omega (arith, n.rest_is, i.rest_is, rw (add-one p) at (total_step sums p h));
+          rest_is = omega (arith, n.rest_is, i.rest_is, rw (add-one p) at (at_drop_more total sums p 0 h));
           charges_are =
               n.charges_are
               ∙ ap (λ (xs : List ℕ). plus xs (charges_of (get_or sums p 0) (keep marks (shares (get_or sums p 0) d.rest d.left))

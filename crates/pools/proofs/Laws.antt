@@ -11,7 +11,7 @@ use lib.Seq.{take_all}
 use Rattle.lists.specs.Limits.{member_limit, rank_limit}
 use Rattle.lists.specs.Sums.{total}
 use Rattle.lists.proofs.Places.{map_same}
-use Rattle.lists.proofs.Sums.{total_step, total_zeros, get_or_zeros, zeros, length-plus, get_or-plus, total-plus, plus_none, none-plus, length-minus}
+use Rattle.lists.proofs.Sums.{total_zeros, get_or_zeros, zeros, length-plus, get_or-plus, total-plus, plus_none, none-plus, length-minus}
 use Rattle.lists.proofs.Sums.{get_or-minus, total-minus}
 use Rattle.split.specs.Split.{share_of, split_of}
 use Rattle.split.proofs.Laws.{share-le_left, share-last, length-split, split-le, split-within, split_whole, total_within}
@@ -22,6 +22,7 @@ use Rattle.admission.proofs.EachPool.{length_pool-ranks}
 use Rattle.rooms.specs.Rooms.{gives}
 use Rattle.pools.specs.Pools.{portion_of, portions_of, charges_in, charges_up_to, charges_together, unmet, still_standing, tied, charges_by_pools}
 use Rattle.pools.specs.Parts.{undivided}
+use Rattle.std.proofs.lemmas.List.{at_drop_more}
 
 -- portions -----------------------------------------------------------------------
 
@@ -52,7 +53,7 @@ portion-le p sums w h =
     omega (
       arith,
       portion_turn p sums w h,
-      share-le_left (undivided p sums w) (get_or sums p 0) (total (drop p sums)) (omega (arith, total_step sums p h)),
+      share-le_left (undivided p sums w) (get_or sums p 0) (total (drop p sums)) (omega (arith, at_drop_more total sums p 0 h)),
     )
 
 -- the pools' charges ----------------------------------------------------------------
@@ -99,7 +100,7 @@ module _ (sums ws ranks : List ℕ) where
   unfolding charges_up_to
   up_to-placed zero h = omega (arith, total_zeros (length ws))
   up_to-placed (suc p) h =
-      let t : total (drop p sums) ≡ get_or sums p 0 + total (drop (suc p) sums) = rw (add-one p) at (total_step sums p (omega arith)) in
+      let t : total (drop p sums) ≡ get_or sums p 0 + total (drop (suc p) sums) = rw (add-one p) at (at_drop_more total sums p 0 (omega arith)) in
       omega (arith, total-plus (up_to p) (in_pool p), up_to-placed p (omega arith), in-placed p)
 
   module _ (long : length ws ≡ member_limit) (ranked : length ranks ≡ member_limit * length sums) where

@@ -11,13 +11,13 @@ use lib.Seq.{drop-set-lt, drop-drop, get_or-drop, get_or-set_same}
 use Rattle.std.specs.Prelude.{Some, None, unwrap_or}
 use Rattle.std.specs.List.{position_or_len}
 use Rattle.lists.specs.Sums.{total}
-use Rattle.lists.proofs.Cases.{drop_next}
 use Rattle.lists.proofs.Fill.{fill_turn, fill_done}
 use Rattle.lists.proofs.Sums.{get_or-le-total, total_raised}
 use Rattle.admission.specs.Admission.{losses_of}
 use Rattle.admission.specs.declared.Pools.{Pools}
 use Rattle.admission.proofs.EachPool.{length-losses}
 use Rattle.pools.specs.Pools.{losses_after, joined_pool, sums_of}
+use Rattle.std.proofs.lemmas.List.{drop_more}
 
 pub length_after : (given : ℕ) (losses : List ℕ) → length (losses_after given losses) ≡ length losses
 unfolding losses_after
@@ -52,7 +52,7 @@ module _ (given : ℕ) (losses : List ℕ) where
       let a : get_or out k 0 - met ≡ get_or losses k 0 - rest = omega arith in
       let b : rest - met ≡ rest - get_or losses k 0 = omega arith in
       let step : losses_after rest (drop k losses) ≡ (get_or out k 0 - met) ∷ losses_after (rest - met)
-      (drop (k + 1) losses) = rw (a, b, drop_next losses k h) in
+      (drop (k + 1) losses) = rw (a, b, drop_more losses k 0 h) in
       record {
         as_long = length-set out k (get_or out k 0 - met) ∙ m.as_long;
         stands =

@@ -7,7 +7,7 @@ use lib.Dec.{eqb, ltb}
 use Rattle.std.specs.Prelude.{Option, Some, None, Ok, Err, is_some}
 use Rattle.lists.specs.Checks.{check}
 use Rattle.lists.specs.Limits.{member_limit}
-use Rattle.lists.proofs.Checks.{check_by, check_past, neither}
+use Rattle.lists.proofs.Checks.{check_by, check_past}
 use Rattle.refusal.specs.Refusal.{position_of, answered}
 use Rattle.refusal.specs.declared.Refusal.{Refusal}
 use Rattle.admission.specs.Admission.{standing}
@@ -16,6 +16,7 @@ use Rattle.waterfall.specs.Register.{Register, GivenBack}
 use Rattle.waterfall.specs.Calls.{payment_refusal, payment_of, replenishment_refusal, replenishment_of, close_refusal, close_of}
 use Rattle.waterfall.specs.Reply.{Reply, Layer, layer1, layer2, layer3, layer4, layer5, layer6, allocated, Says, nothing, judged}
 use Rattle.layers.specs.declared.Allocation.{Allocation}
+use Rattle.std.proofs.lemmas.Bool.{or_parts}
 
 -- a test that is answered by itself, and what is answered by it
 pub is_refused : {e : Refusal} (o : Option Refusal) → answered o (tt {0}) ≡ Err e → o ≡ Some e
@@ -101,4 +102,4 @@ fit r member reason unfit g e =
 
 -- an amount that is not unfit keeps the sum within its bound
 pub within_bound : (amount sum most : ℕ) → (eqb amount 0 || ltb most sum) ≡ false → sum ≤ most
-within_bound amount sum most e = ltb-false most sum (neither (eqb amount 0) _ e).1
+within_bound amount sum most e = ltb-false most sum (or_parts (eqb amount 0) _ e).1

@@ -13,8 +13,7 @@ use Rattle.std.specs.List.{range_with_len}
 use Rattle.lists.specs.Checks.{check}
 use Rattle.lists.specs.Limits.{member_limit, rank_limit, sum_limit}
 use Rattle.lists.specs.Sums.{total}
-use Rattle.lists.proofs.Cases.{or-false}
-use Rattle.lists.proofs.Checks.{check_same, check_skip, neither}
+use Rattle.lists.proofs.Checks.{check_same, check_skip}
 use Rattle.lists.proofs.Sums.{single, kept_mark, mark-within}
 use Rattle.refusal.specs.declared.Refusal.{Refusal}
 use Rattle.figures.specs.Figures.{status_at, is_absent, is_in-default, others}
@@ -34,6 +33,8 @@ use Rattle.layers.specs.declared.Allocation.{Allocation}
 use Rattle.waterfall.proofs.Answer.{is_none}
 use Rattle.waterfall.proofs.Given.{length-others, length-standing}
 use Rattle.waterfall.proofs.Pooled.{length_pool-sums, total_pool-sums}
+use Rattle.std.proofs.lemmas.Bool.{or_parts}
+use Rattle.std.proofs.Math.Bool.{or-false}
 
 -- two calls that are judged alike, and are accepted alike
 judged_same : (refusal : Option Refusal) (r : Register) (a b : Option Allocation) (x y : Register) → (refusal ≡ None → (a ≡ b) × (x ≡ y))
@@ -83,7 +84,7 @@ module _ (r : Register) (g : GivenBack r) (member : ℕ) (pools : Pools) (one : 
 
   sixty-four : (slip : ℕ) → unready (length ranks) slip ≡ false → length ranks ≡ member_limit
   sixty-four slip e = eqb-true (length ranks) member_limit
-      (not-false _ (neither (not (eqb (length ranks) member_limit)) (ltb slip (member_limit + member_limit)) e).0)
+      (not-false _ (or_parts (not (eqb (length ranks) member_limit)) (ltb slip (member_limit + member_limit)) e).0)
 
   fifteen : length ranks ≡ member_limit → pools_misranked (others r.status member) ranks pools.count ≡ misranked (others r.status member) ranks
   unfolding pools_misranked
@@ -109,7 +110,7 @@ module _ (r : Register) (g : GivenBack r) (member : ℕ) (pools : Pools) (one : 
         loss_fits = ltb-false sum_limit loss p13;
         ranks_length = sixty-four slip p14;
         slip-length = ltb-false slip (member_limit + member_limit)
-            (neither (not (eqb (length ranks) member_limit)) (ltb slip (member_limit + member_limit)) p14).1;
+            (or_parts (not (eqb (length ranks) member_limit)) (ltb slip (member_limit + member_limit)) p14).1;
         well_ranked = p15;
       })))))))
 

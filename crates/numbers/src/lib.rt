@@ -6,13 +6,10 @@ ghost use Rattle.numbers.specs.Numbers.{is_digit, read_of};
 ghost use Rattle.std.specs.Option.{SomeIff};
 
 // The value of a digit.
-fn digit(byte: u8) -> Option<u8>
+fn digit(byte: u8) -> Option<u32>
     ensures { SomeIff result (IsTrue (is_digit byte)) (byte - 48) }
 {
-    match byte {
-        b'0'..=b'9' => Some(byte - b'0'),
-        _ => None,
-    }
+    char::from(byte).to_digit(10)
 }
 
 /// The word as a number, where it is digits and its value fits. (std's `parse` takes a plus sign too, which is no digit.)

@@ -27,7 +27,7 @@ fn read_rank(word: &[u8]) -> Option<Rank>
     let colon = find(word, b':')?;
     let member = read_number(&word[..colon])?;
     let rank = read_byte(&word[colon + 1..])?;
-    if member == 0 || LAST_MEMBER < member {
+    if !(1..=LAST_MEMBER).contains(&member) {
         return None;
     }
     Some(Rank { member, rank })

@@ -14,10 +14,7 @@ use waterfall::{Allocation, Reply};
 pub fn latest_of(latest: Option<Allocation>, reply: Reply) -> Option<Allocation>
     ensures { result ≡ latest_of latest reply }
 {
-    match reply {
-        Ok(Some(allocation)) => Some(allocation),
-        Ok(None) | Err(_) => latest,
-    }
+    reply.ok().flatten().or(latest)
 }
 
 fn put_allocation<const N: usize>(out: &mut Text<N>, allocation: Allocation)

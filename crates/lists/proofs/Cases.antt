@@ -1,12 +1,11 @@
 -- Tests joined, a list by its next number, and two lists cut alike.
-use Prim.Native.Nat.{ℕ, ◌+◌, ◌<◌}
+use Prim.Native.Nat.{ℕ}
 use mathlib.Core.Path.{◌≡◌, refl, sym, ap, ◌∙◌}
-use mathlib.Core.Bool.{Bool, true, false, ◌&&◌, ◌||◌}
-use mathlib.Core.List.{List, ◌∷◌, ◌++◌}
-use native.Mathlib.Numerals.{add-one}
+use mathlib.Core.Bool.{true, false}
+use mathlib.Core.List.{List, ◌++◌}
 use native.Mathlib.Omega.{arith}
-use lib.ListN.{length, get_or, take, drop, length-append}
-use lib.Seq.{drop-cons, take_at, drop_at}
+use lib.ListN.{length, take, drop, length-append}
+use lib.Seq.{take_at, drop_at}
 
 pub never : {X : Type 0} → false ≡ true → X
 never h = let z : ◌≡◌ {A = ℕ} 0 1 = cc in absurd (omega arith)

@@ -1,7 +1,7 @@
 -- Laws of `check`. The set `checks` has `search` find the check that holds by what is known of the numbers.
 use Prim.Native.Nat.{ℕ, ◌≤◌, ◌<◌}
 use mathlib.Core.Path.{◌≡◌, refl, sym, ap, ◌∙◌}
-use mathlib.Core.Bool.{Bool, true, false, ◌||◌, ◌&&◌, true≢false, false≢true, or_assoc}
+use mathlib.Core.Bool.{Bool, true, false, ◌||◌, ◌&&◌, false≢true, or_assoc}
 use borrow.Author.Tests.{lt-ltb, le-ltb, le-leb, lt-leb, eq-eqb, ne_eqb}
 use lib.Dec.{eqb, ltb, leb}
 use Rattle.lists.specs.Checks.{check}

@@ -1,7 +1,7 @@
 // Answers kept one behind the other and written to standard output.
 #![tactic(auto)]
 
-ghost use Rattle.std.specs.Prelude.{◌≡◌, ◌+◌, ◌≤◌, [], length};
+ghost use Rattle.std.specs.Prelude.{◌≡◌, ◌+◌, ◌≤◌, [], length, is_ok};
 
 use std::io;
 use std::io::{Eprint, Print};
@@ -16,10 +16,16 @@ pub fn write_out<const N: usize>(rt: &impl Print, text: &mut Text<N>) -> io::Res
     written
 }
 
-/// Says on standard error why standard output could not be written, where it could not.
-pub fn tell(rt: &impl Eprint, written: io::Result<()>) {
-    if let Err(why) = written {
-        let _ = eprintln!(rt; "standard output: {why}");
+/// Whether standard output was written. Where it was not, it is said on standard error why.
+pub fn tell(rt: &impl Eprint, written: io::Result<()>) -> bool
+    ensures { result ≡ is_ok written }
+{
+    match written {
+        Ok(()) => true,
+        Err(why) => {
+            let _ = eprintln!(rt; "standard output: {why}");
+            false
+        }
     }
 }
 

@@ -1,8 +1,9 @@
 // The bytes of a line: a part of them, and its words.
 #![tactic(auto)]
 
-ghost use Rattle.std.specs.Prelude.{◌≡◌, ◌==◌, ◌<◌, ◌^◌, ℕ, List, [], ◌∷◌, length, take, drop, MatchOption};
+ghost use Rattle.std.specs.Prelude.{◌≡◌, ◌==◌, ◌<◌, ◌^◌, ℕ, List, [], ◌∷◌, length, take, drop};
 ghost use Rattle.std.specs.List.{prefix_len, position};
+ghost use Rattle.std.specs.Iterator.{YieldsFirstRef, item_count};
 ghost use Rattle.std.specs.Option.{IfSome};
 ghost use Rattle.words.specs.Bytes.{part as Bytes·part};
 ghost use Rattle.words.specs.Words.{is_space, in_word, words_of};
@@ -84,13 +85,18 @@ impl<'a> Words<'a> {
     {
         Words { rest: line }
     }
+}
 
-    /// The next word, where there is one.
+// The words come one by one, and there are fewer than 2 ^ 64 of them.
+impl<'a> Iterator for Words<'a> {
+    type Item = &'a [u8];
+
+    ghost next_gives = { λ old word new. YieldsFirstRef (λ words. words) old word new × (length old < 2 ^ 64) };
+
+    ghost remaining = { item_count (λ words. words) };
+
     #[tactic(auto, using(crate::proofs::Cutting::no_word, crate::proofs::Cutting::next_word, crate::proofs::Cutting::words_within))]
-    pub fn next(&mut self) -> Option<&'a [u8]>
-        ensures word { MatchOption result ((self.old ≡ []) × (self.new ≡ [])) (λ word. self.old ≡ word.now ∷ self.new) }
-        ensures countable { length self.old < 2 ^ 64 }
-    {
+    fn next(&mut self) -> Option<&'a [u8]> {
         let (word, rest) = split_word(trim_start(self.rest));
         self.rest = rest;
         if word.is_empty() {

@@ -87,7 +87,7 @@ impl<'a> Words<'a> {
     }
 }
 
-// The words come one by one, and there are fewer than 2 ^ 64 of them.
+// That they are countable stands in `next_gives`: as a clause of `next` beside the trait's own, it leaves the proofs of callers' loops open.
 impl<'a> Iterator for Words<'a> {
     type Item = &'a [u8];
 

@@ -1,7 +1,8 @@
 // A line of a sheet: its content, its cells, and what a cell says.
 #![tactic(auto)]
 
-ghost use Rattle.std.specs.Prelude.{◌≡◌, ◌==◌, ◌<◌, ◌⊎◌, ℕ, List, [], ◌∷◌, length, take, MatchOption};
+ghost use Rattle.std.specs.Prelude.{◌≡◌, ◌==◌, ◌<◌, ◌⊎◌, ℕ, List, [], ◌∷◌, length, take};
+ghost use Rattle.std.specs.Iterator.{YieldsFirstRef, item_count};
 ghost use Rattle.std.specs.Option.{IfSome};
 ghost use Rattle.std.specs.List.{position, position_or_len, suffix_len};
 ghost use Rattle.words.specs.Words.{is_space};
@@ -120,12 +121,17 @@ impl<'a> Cells<'a> {
     {
         Cells { rest: Some(line) }
     }
+}
 
-    /// The next cell, where there is one.
+impl<'a> Iterator for Cells<'a> {
+    type Item = &'a [u8];
+
+    ghost next_gives = { YieldsFirstRef (λ cells. cells) };
+
+    ghost remaining = { item_count (λ cells. cells) };
+
     #[tactic(auto, using(crate::proofs::Cutting::first_part, crate::proofs::Cutting::last_part))]
-    pub fn next(&mut self) -> Option<&'a [u8]>
-        ensures { MatchOption result ((self.old ≡ []) × (self.new ≡ [])) (λ cell. self.old ≡ cell.now ∷ self.new) }
-    {
+    fn next(&mut self) -> Option<&'a [u8]> {
         let rest = self.rest?;
         match find(rest, b',') {
             Some(length) => {

@@ -27,6 +27,7 @@ pub fn split(sum: u64, whole: u64, weights: &[u64], shares: &mut [u64]) -> bool
     let mut left = sum;
     let mut rest = whole;
     let mut over = false;
+    // By place: tried by a zip with `iter_mut`, of which a proof knows the slice's length afterwards, and not its elements.
     for (i, &weight) in weights.iter().enumerate() {
         let part = share(left, weight, rest);
         shares[i] = part;

@@ -81,11 +81,17 @@ fn place(figures: Figures, estate: Estate, pools: Pools, ranks: &[u8]) -> Placed
         estate.fallen,
         sums,
     );
-    let fourth = charge_by_pools(sums, figures.status, figures.contribution, ranks);
+    let mut charges = [0; 64];
+    let fourth = charge_by_pools(
+        sums,
+        figures.status,
+        figures.contribution,
+        ranks,
+        &mut charges,
+    );
     let fifth = layer(third.left - fourth.total, figures.tranche2);
     let sixth = share_rooms(figures.status, figures.cap, figures.called, fifth.left);
-    // Locals: the language does not take an array of one struct straight into the literal of another.
-    let charges = fourth.charges;
+    // A local: the language does not take an array of one struct straight into the literal of another.
     let called = sixth.shares;
     Placed {
         allocation: Allocation {

@@ -15,7 +15,6 @@ use Rattle.lists.proofs.Sums.{total_zeros, single, length-keep, get_or-keep, kee
 use Rattle.split.specs.Split.{share_of, split_of}
 use Rattle.split.proofs.Laws.{exceeds-none}
 use Rattle.ranks.specs.Ranks.{charges_of}
-use Rattle.ranks.specs.declared.Charged.{Charged}
 use Rattle.figures.specs.declared.Status.{Status}
 use Rattle.figures.specs.Figures.{live_in}
 use Rattle.figures.proofs.Figures.{length-live}
@@ -180,13 +179,14 @@ module _ (sums : List ℕ) (status : List Status) (contribution ranks : List ℕ
         }
 
     -- with the tie's charges, these are layer 4's
-    pub by-pools_so : (x : Charged) → Tied (rooms marks contribution d.charges) whole d x → Charges (charges_by_pools sums weights ranks) contribution x
+    pub by-pools_so : (charges : List ℕ) (t : ℕ) (over : Bool) → Tied (rooms marks contribution d.charges) whole d charges t over
+        → Charges (charges_by_pools sums weights ranks) contribution charges t over
     unfolding charges_by_pools tied still_standing unmet charges_together
-    by-pools_so x q =
+    by-pools_so charges t over q =
         let stands : rooms marks contribution d.charges ≡ still_standing sums weights ranks =
         keep-minus marks contribution d.charges ∙ ap (minus weights) i.charges_are in
         let n : d.total ≡ total charged = i.total_is ∙ ap total i.charges_are in
-        let e : x.charges ≡ charges_by_pools sums weights ranks =
+        let e : charges ≡ charges_by_pools sums weights ranks =
         q.charges_are
         ∙ ap (λ (xs : List ℕ). plus d.charges (split_of (gives (whole - d.total) (total xs)) xs)) stands
         ∙ ap (λ (m : ℕ). plus d.charges (split_of (gives (m - d.total) (total (still_standing sums weights ranks))) (still_standing sums weights ranks))) w
@@ -195,7 +195,7 @@ module _ (sums : List ℕ) (status : List Status) (contribution ranks : List ℕ
         record {
           charges_are = e;
           total_is = q.total_is;
-          over_is = q.over_is ∙ sym (exceeds-none x.charges contribution
+          over_is = q.over_is ∙ sym (exceeds-none charges contribution
               (λ k. omega (arith, ap (λ (xs : List ℕ). get_or xs k 0) e, by-pools-within sums weights ranks k, keep-le marks contribution k)));
         }
 
@@ -216,21 +216,22 @@ module _ (sums : List ℕ) (status : List Status) (contribution ranks standing :
       }
 
   -- they are the weights, and a charge within one is within the contribution
-  pub standing-charges : (x : Charged) → Charges (charges_by_pools sums (keep (live_in status) standing) ranks) standing x
-      → Charges (charges_by_pools sums (keep (live_in status) contribution) ranks) contribution x
-  standing-charges x q =
+  pub standing-charges : (charges : List ℕ) (t : ℕ) (over : Bool)
+      → Charges (charges_by_pools sums (keep (live_in status) standing) ranks) standing charges t over
+      → Charges (charges_by_pools sums (keep (live_in status) contribution) ranks) contribution charges t over
+  standing-charges charges t over q =
       let same : keep (live_in status) standing ≡ keep (live_in status) contribution = ap (keep (live_in status)) e ∙ keep-keep (live_in status) contribution in
-      let is : x.charges ≡ charges_by_pools sums (keep (live_in status) contribution) ranks = q.charges_are
+      let is : charges ≡ charges_by_pools sums (keep (live_in status) contribution) ranks = q.charges_are
       ∙ ap (λ (ws : List ℕ). charges_by_pools sums ws ranks) same in
-      let within : (k : ℕ) → get_or x.charges k 0 ≤ get_or (keep (live_in status) contribution) k 0 = λ k.
+      let within : (k : ℕ) → get_or charges k 0 ≤ get_or (keep (live_in status) contribution) k 0 = λ k.
       omega (arith, ap (λ (xs : List ℕ). get_or xs k 0) is, by-pools-within sums (keep (live_in status) contribution) ranks k) in
       record {
         charges_are = is;
         total_is = q.total_is;
         over_is =
             q.over_is
-            ∙ exceeds-none x.charges standing (λ k. omega (arith, within k, ap (λ (xs : List ℕ). get_or xs k 0) e))
-            ∙ sym (exceeds-none x.charges contribution (λ k. omega (arith, within k, keep-le (live_in status) contribution k)));
+            ∙ exceeds-none charges standing (λ k. omega (arith, within k, ap (λ (xs : List ℕ). get_or xs k 0) e))
+            ∙ sym (exceeds-none charges contribution (λ k. omega (arith, within k, keep-le (live_in status) contribution k)));
       }
 
 -- before the first pool

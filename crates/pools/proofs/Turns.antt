@@ -149,7 +149,7 @@ module _ (whole : ℕ) (status : List Status) (contribution : List ℕ) (d : Div
       )
 
   pub tied_so : (charges wide : List ℕ) → charges ≡ plus d.charges cs → wide ≡ charges
-      → Tied standing whole d (record { charges = wide; total = d.total + t; over = false })
+      → Tied standing whole d wide (d.total + t) false
   tied_so charges wide a b =
       record {
         charges_are = b ∙ a ∙ ap (plus d.charges) s.shares_are;

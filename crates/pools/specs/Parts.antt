@@ -4,7 +4,6 @@ use Rattle.lists.specs.Limits.{member_limit, pool_limit, amount_limit, allocatio
 use Rattle.lists.specs.Sums.{total, plus, minus, keep, AtMost}
 use Rattle.split.specs.Split.{share_of, split_of, exceeds}
 use Rattle.ranks.specs.Ranks.{charges_of}
-use Rattle.ranks.specs.declared.Charged.{Charged}
 use Rattle.figures.specs.declared.Status.{Status}
 use Rattle.figures.specs.Figures.{live_in}
 use Rattle.admission.specs.Admission.{misranked, pools_misranked}
@@ -13,11 +12,11 @@ use Rattle.rooms.specs.Parts.{Roomy}
 use Rattle.pools.specs.Pools.{charges_up_to}
 use Rattle.pools.specs.declared.Division.{Division}
 
--- the charges are these, with their total, and whether one passes its contribution
-pub record Charges (these contribution : List ℕ) (charged : Charged) : Type 0 where
-  pub charges_are : charged.charges ≡ these
-  pub total_is : charged.total ≡ total charged.charges
-  pub over_is : charged.over ≡ exceeds charged.charges contribution
+-- the charges that were lent are these, with their total, and whether one passes its contribution
+pub record Charges (these contribution charges : List ℕ) (charged : ℕ) (over : Bool) : Type 0 where
+  pub charges_are : charges ≡ these
+  pub total_is : charged ≡ total charges
+  pub over_is : over ≡ exceeds charges contribution
 
 -- what one pool is charged with
 pub record Chargeable (status : List Status) (contribution ranks : List ℕ) : Type 0 where
@@ -76,7 +75,7 @@ pub record Tiable (whole : ℕ) (contribution : List ℕ) (d : Division) : Type 
   pub total_is : d.total ≡ total d.charges
   pub total_within : d.total ≤ whole
 
-pub record Tied (standing : List ℕ) (whole : ℕ) (d : Division) (charged : Charged) : Type 0 where
-  pub charges_are : charged.charges ≡ plus d.charges (split_of (gives (whole - d.total) (total standing)) standing)
-  pub total_is : charged.total ≡ total charged.charges
-  pub over_is : charged.over ≡ false
+pub record Tied (standing : List ℕ) (whole : ℕ) (d : Division) (charges : List ℕ) (charged : ℕ) (over : Bool) : Type 0 where
+  pub charges_are : charges ≡ plus d.charges (split_of (gives (whole - d.total) (total standing)) standing)
+  pub total_is : charged ≡ total charges
+  pub over_is : over ≡ false

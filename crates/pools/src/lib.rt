@@ -60,15 +60,21 @@ pub fn sums_of(given: u64, fallen: u64, losses: &mut [u64])
 
 // One pool: a sum charged to the live members by its ranks, over their contributions or their portions of them. These are no one struct with the status,
 // which `Division::charge` pairs with its own portions.
-fn charge_others(status: &[Status; 64], contribution: &[u32; 64], sum: u64, ranks: &[u8]) -> Charged
+fn charge_others(
+    status: &[Status; 64],
+    contribution: &[u32; 64],
+    sum: u64,
+    ranks: &[u8],
+    charges: &mut [u64; 64],
+) -> Charged
     requires moderate { sum ≤ allocation_limit }
     requires chargeable { Chargeable status.now contribution.now ranks.now }
-    ensures { Charges (charges_of sum (keep (live_in status.now) contribution.now) ranks.now) contribution.now result }
+    ensures { Charges (charges_of sum (keep (live_in status.now) contribution.now) ranks.now) contribution.now charges.new result.total result.over }
 {
     // "Only ranks of live members other than the defaulter are read": the others' count as 0, which is no rank. (Bytes, and no
     // options, as in `ranks::Ranked`.)
     let read = of_live(status, ranks, 0);
-    charge_by_rank(sum, contribution, &read)
+    charge_by_rank(sum, contribution, &read, charges)
 }
 
 // A pool's turn of the split of one contribution. Where nothing is left of it, nothing is divided.
@@ -104,23 +110,29 @@ impl Division {
             return;
         }
         let portions = portions_of(self.left, sum, self.rest);
-        let charged = charge_others(status, &portions, sum, ranks);
+        let mut charges = [0; 64];
+        let charged = charge_others(status, &portions, sum, ranks, &mut charges);
         take_from(&mut self.left, &widened(&portions));
-        add_to(&mut self.charges, &charged.charges, charged.total);
+        add_to(&mut self.charges, &charges, charged.total);
         self.rest -= sum;
         self.total += charged.total;
     }
 
     // "What the pools cannot meet falls in one sum, after the last pool, on all contributions still standing as one tie."
-    fn tie(mut self, whole: u64, status: &[Status; 64], contribution: &[u32; 64]) -> Charged
+    fn tie(
+        mut self,
+        whole: u64,
+        status: &[Status; 64],
+        contribution: &[u32; 64],
+        charges: &mut [u64; 64],
+    ) -> Charged
         requires { Tiable whole contribution.now self }
-        ensures { Tied (rooms (live_in status.now) contribution.now self.charges) whole self result }
+        ensures { Tied (rooms (live_in status.now) contribution.now self.charges) whole self charges.new result.total result.over }
     {
         let tie = share_rooms(status, contribution, &self.charges, whole - self.total);
         add_to(&mut self.charges, &tie.shares, tie.total);
-        let charges = widened(&self.charges);
+        *charges = widened(&self.charges);
         Charged {
-            charges,
             total: self.total + tie.total,
             // The pools' charges and the tie's are within what they are drawn from: their contracts prove it.
             over: false,
@@ -154,22 +166,23 @@ fn charge_pools(
 }
 
 // Layer 4: the sums of the pools charged to the live members. With one pool the portions are the contributions themselves, and nothing is left for a
-// tie.
+// tie. The charges are lent, and written whole, as in `charge_by_rank`.
 pub fn charge_by_pools(
     sums: &[u64],
     status: &[Status; 64],
     contribution: &[u32; 64],
     ranks: &[u8],
+    charges: &mut [u64; 64],
 ) -> Charged
     requires { Poolable sums.now status.now contribution.now ranks.now }
-    ensures { Charges (charges_by_pools sums.now (keep (live_in status.now) contribution.now) ranks.now) contribution.now result }
+    ensures { Charges (charges_by_pools sums.now (keep (live_in status.now) contribution.now) ranks.now) contribution.now charges.new result.total result.over }
 {
     let whole = total(sums);
     if sums.len() == 1 {
-        return charge_others(status, contribution, whole, ranks);
+        return charge_others(status, contribution, whole, ranks, charges);
     }
     // "Each other live member's contribution is divided": nobody else's is, and it counts as 0.
     let standing = of_live(status, contribution, 0);
     let division = charge_pools(sums, whole, status, standing, ranks);
-    division.tie(whole, status, &standing)
+    division.tie(whole, status, &standing, charges)
 }

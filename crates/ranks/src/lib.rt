@@ -16,12 +16,11 @@ use lists::{RANK_LIMIT, RANKS};
 // A place for each rank. Place 0 takes what has no rank, so that no loop tests for it.
 const PLACES: usize = RANKS + 1;
 
-// The charges, their total, and whether one comes out above its weight.
+// The total of the charges, and whether one comes out above its weight.
 #[derive(Drop)]
 pub struct Charged {
-    pub charges: [u64; 64],
     pub total: u64,
-    // A flag, and no Result: the total and the charges are promised either way, and an error would carry neither.
+    // A flag, and no Result: the total and the charges are promised either way, and an error would carry no total.
     pub over: bool,
 }
 
@@ -131,20 +130,20 @@ impl Ranked<'_> {
 }
 
 impl Margin {
-    // What the rank gives, shared over its members' weights: the shares, and the flag of the split. Where the rank gives nothing, nothing is split.
+    // What the rank gives, shared over its members' weights: the charges are the shares, and the answer is the flag of the split. Where the rank gives
+    // nothing, nothing is split.
     #[tactic(auto, using(crate::proofs::Parts::unshared, crate::proofs::Parts::shares_asked, crate::proofs::Laws::length_at))]
-    fn share(self, ranked: &Ranked) -> ([u64; 64], bool)
+    fn share(self, ranked: &Ranked, charges: &mut [u64; 64]) -> bool
         requires { Shared self (at_rank self.rank ranked.now.weights.now ranked.now.ranks.now) }
-        ensures shares_are { result.0 ≡ split_of self.part (at_rank self.rank ranked.now.weights.now ranked.now.ranks.now) }
-        ensures over_is { let tied = at_rank self.rank ranked.now.weights.now ranked.now.ranks.now in result.1 ≡ exceeds (split_of self.part tied) tied }
+        ensures charges_after { charges.new ≡ split_of self.part (at_rank self.rank ranked.now.weights.now ranked.now.ranks.now) }
+        ensures over_is { let tied = at_rank self.rank ranked.now.weights.now ranked.now.ranks.now in result ≡ exceeds (split_of self.part tied) tied }
     {
-        let mut shares = [0; 64];
         if self.part == 0 {
-            return (shares, false);
+            *charges = [0; 64];
+            return false;
         }
         let tied = ranked.weights_at(self.rank);
-        let over = split::split(self.part, self.whole, &tied, &mut shares);
-        (shares, over)
+        split::split(self.part, self.whole, &tied, charges)
     }
 
     // The ranks above are charged whole: their weights are added to the charges. Where they have nothing, nothing is added.
@@ -161,28 +160,33 @@ impl Margin {
     }
 }
 
-// `sum` charged to `weights` by rank. The total needs no second addition: it is the sum, less what no rank could give.
+// `sum` charged to `weights` by rank, into charges that are lent, and written whole: handed back by value, which proved, a default took 4,219
+// instructions, where it took 3,844. The total needs no second addition: it is the sum, less what no rank could give.
 #[tactic(auto, using(crate::proofs::Parts::charging))]
-pub fn charge_by_rank(sum: u64, weights: &[u32; 64], ranks: &[u8; 64]) -> Charged
+pub fn charge_by_rank(
+    sum: u64,
+    weights: &[u32; 64],
+    ranks: &[u8; 64],
+    charges: &mut [u64; 64],
+) -> Charged
     requires moderate { sum ≤ allocation_limit }
     requires weighed { Weighed weights.now ranks.now }
-    ensures charges_are { result.charges ≡ charges_of sum weights.now ranks.now }
+    ensures charges_after { charges.new ≡ charges_of sum weights.now ranks.now }
     ensures total_is { result.total ≡ total (charges_of sum weights.now ranks.now) }
     ensures over_is { result.over ≡ exceeds (charges_of sum weights.now ranks.now) weights.now }
 {
     if sum == 0 {
+        *charges = [0; 64];
         return Charged {
-            charges: [0; 64],
             total: 0,
             over: false,
         };
     }
     let ranked = Ranked { weights, ranks };
     let margin = ranked.margin(sum);
-    let (mut charges, over) = margin.share(&ranked);
-    margin.charge_above(&ranked, &mut charges);
+    let over = margin.share(&ranked, charges);
+    margin.charge_above(&ranked, charges);
     Charged {
-        charges,
         total: margin.total,
         over,
     }

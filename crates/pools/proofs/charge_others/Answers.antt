@@ -37,9 +37,9 @@ returns c =
     let n : length marks ≡ length a.contribution.now = omega (arith, length-live a.status.now) in
     record {
       charges_are =
-          e.charges_are
+          e.charges_after
           ∙ ap (charges_of a.sum a.contribution.now) (read (goal.at.returns c).After-of_live-read)
           ∙ charges_unread marks a.contribution.now a.ranks.now (length-keep marks a.contribution.now n) a.sum;
-      total_is = e.total_is ∙ ap total (sym e.charges_are);
-      over_is = e.over_is ∙ ap (λ (xs : List ℕ). exceeds xs a.contribution.now) (sym e.charges_are);
+      total_is = e.total_is ∙ ap total (sym e.charges_after);
+      over_is = e.over_is ∙ ap (λ (xs : List ℕ). exceeds xs a.contribution.now) (sym e.charges_after);
     }

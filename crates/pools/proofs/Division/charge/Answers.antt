@@ -1,7 +1,5 @@
 -- `pools::Division::charge` meets its contract.
 use native.Mathlib.Omega.{arith}
-use Rattle.std.proofs.Common.{rules}
-use Rattle.figures.proofs.Made.{mapped_as}
 use Rattle.pools.proofs.Turns.{chargeable_so, can-take, can-add, total_most, charged_most, pool_charged, pool_uncharged}
 use Rattle.pools.proofs.Division.charge.Goals as goal
 

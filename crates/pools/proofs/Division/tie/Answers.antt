@@ -1,10 +1,4 @@
 -- `pools::Division::tie` meets its contract.
-use mathlib.Core.Path.{ap}
-use native.Mathlib.Omega.{arith}
-use lib.ListN.{length}
-use Rattle.lists.proofs.Sums.{length-plus}
-use Rattle.std.proofs.Common.{rules}
-use Rattle.figures.proofs.Made.{mapped_as}
 use Rattle.rooms.proofs.Shares.{whole_shared}
 use Rattle.pools.proofs.Turns.{tie_adds, tied_so}
 use Rattle.pools.proofs.Division.tie.Goals as goal
@@ -17,4 +11,4 @@ add_to-requires-clause-fits c = tie_adds _ c.args.status.now _ c.args.self c.req
 
 pub returns : goal.returns
 returns c =
-    tied_so _ c.args.status.now _ c.args.self c.requires _ _ _ _ c.share_rooms-tie.ensures _ _ c.add_to.ensures c.widened-charges.ensures
+    tied_so _ c.args.status.now _ c.args.self c.requires _ _ _ _ c.share_rooms-tie.ensures _ _ c.add_to.ensures c.widened.ensures

@@ -113,6 +113,7 @@ impl Ranked<'_> {
             → charges.new ≡ plus (chosen_by test self.now.weights.now self.now.ranks.now) charges.old }
     {
         let ranks = self.ranks;
+        // By place: a zip with `iter_mut` was tried, and leaves as little to a proof as in `split::split`.
         for (i, &rank) in ranks.iter().enumerate() {
             let weight = u64::from(self.weights[i]);
             charges[i] += if chosen(rank) { weight } else { 0 };

@@ -17,7 +17,6 @@ const OWN: u64 = 1_000_003;
 
 const DEFAULTER: u64 = 17;
 
-
 // 777,777 less than what layers 1 to 4 have.
 const IN_LAYER_4: u64 = 64_411_573;
 

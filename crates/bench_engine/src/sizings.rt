@@ -38,7 +38,7 @@ fn repeat(turns: u64, stress: &[u8], shares: &[u8]) -> u64 {
     sum
 }
 
-// Refused sheets are worth no repetition.
+// Refused sheets are worth no repetition: 0, as in `bench_defaults::run`.
 fn accepted(stress: &[u8], shares: &[u8]) -> bool {
     once(0, stress, shares, &mut [0; 64]).is_ok()
 }

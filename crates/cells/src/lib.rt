@@ -103,7 +103,7 @@ pub fn read_amount(cell: &[u8]) -> Option<u32>
 }
 
 /// The cells of a line that are left.
-// (Taken one by one from std's `split`, nine goals of `rows::read_member` stay open: tried.)
+// (Tried: cells taken one by one from std's `split`. Nine goals of `rows::read_member` stay open.)
 #[derive(Drop)]
 pub struct Cells<'a> {
     rest: Option<&'a [u8]>,

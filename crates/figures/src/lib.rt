@@ -71,7 +71,7 @@ pub fn status_at(status: &[Status; 64], member: u64) -> Status
     of_member(status, member, Status::Absent)
 }
 
-// What stands at a member's number, replaced. Its being 1 to 64 is a clause, and no type: a call's number may be any, and refusal 11 answers it, so
+// What stands at a member's number, replaced. That the number is 1 to 64 is a clause, and no type: a call's number may be any, and refusal 11 answers it, so
 // that a type made of it would test it once more.
 fn put<T: Copy>(items: &mut [T; 64], member: u64, item: T)
     requires { (0 < member) × (member ≤ member_limit) }

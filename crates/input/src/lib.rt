@@ -38,7 +38,8 @@ impl State {
     }
 }
 
-// How long the line is that begins at `from`, where its end is read. (Bytes, from and have in no struct: `Lines` has them among its fields.) A last line may have no newline.
+// How long the line is that begins at `from`, where its end is read. A last line may have no newline. (Bytes, from and have in no struct: `Lines` has
+// them among its fields.)
 fn line_length(bytes: &[u8], from: usize, have: usize, ended: bool) -> Option<usize>
     requires { (from ≤ have) × (have ≤ length bytes.now) }
     ensures value { result ≡ length_of ended (Bytes·part bytes.now from have) }
@@ -88,7 +89,7 @@ fn part_at(bytes: &[u8], from: usize, count: usize) -> &[u8]
     &bytes[from..from + count]
 }
 
-/// The lines of an input. (std's `lines` asks for memory.) The bytes from `from` to `have` are read and still to be taken, and begin a line.
+/// The lines of an input. (std's `lines` asks for memory; no Iterator, since what `next` gives borrows from the lines.) The bytes from `from` to `have` are read and still to be taken, and begin a line.
 // (Two places, since a struct cannot hold a slice of its own bytes.)
 #[derive(Drop)]
 pub struct Lines {

@@ -56,6 +56,7 @@ pub struct Allocation {
 #[derive(Clone, Copy)]
 pub struct Placed {
     pub allocation: Allocation,
+    // two lists: each is settled and told as a whole
     pub charges: [u64; 64],
     pub called: [u64; 64],
     // A flag, and no Result: the allocation and the charges are promised either way, and an error would carry neither.

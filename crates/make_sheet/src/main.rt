@@ -37,8 +37,8 @@ fn take(
     Some(())
 }
 
-// The sheet of the lines, where all are read. No input has more lines than the turns. (run_drill has a loop like it, and writes before each read; one
-// function for both would be handed what is done with a line and what before a read.)
+// The sheet of the lines, where all are read. Turns are counted, since a loop has to be shown to end: no input has so many lines and reads. (run_drill has
+// a loop like it, and writes before each read; one function for both would be handed what is done with a line and what before a read.)
 fn read_lines(rt: &(impl Input + Eprint), kind: Kind) -> Option<Text<STRESS_ROOM>> {
     let mut sheet = Text::new();
     let mut lines = Lines::new();

@@ -16,7 +16,7 @@ pub fn write_out<const N: usize>(rt: &impl Print, text: &mut Text<N>) -> io::Res
     written
 }
 
-/// Whether standard output was written. Where it was not, it is said on standard error why.
+/// Whether standard output was written. Where it was not, standard error says why. (A bool, for its contract: a printed line is no promise.)
 pub fn tell(rt: &impl Eprint, written: io::Result<()>) -> bool
     ensures { result ≡ is_ok written }
 {

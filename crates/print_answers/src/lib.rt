@@ -73,7 +73,7 @@ pub fn put_reply<const N: usize>(out: &mut Text<N>, reply: Reply, slip: &[u64])
     ensures len { length out.new ≤ length out.old + 8192 }
 {
     match reply {
-        // Not `put_refusal`, which puts a record too: a call's refusal has none.
+        // `reply_text` has no record for any refusal, and `put_refusal` puts one.
         Err(refusal) => {
             out.put_labelled(b"refused ", u64::from(refusal.number()));
             out.put(b"\n");

@@ -113,7 +113,7 @@ impl Ranked<'_> {
             → charges.new ≡ plus (chosen_by test self.now.weights.now self.now.ranks.now) charges.old }
     {
         let ranks = self.ranks;
-        // By place: a zip with `iter_mut` was tried, and leaves as little to a proof as in `split::split`.
+        // By place: tried by a zip with `iter_mut`, which tells a proof as little here as in `split::split`.
         for (i, &rank) in ranks.iter().enumerate() {
             let weight = u64::from(self.weights[i]);
             charges[i] += if chosen(rank) { weight } else { 0 };
@@ -161,8 +161,8 @@ impl Margin {
     }
 }
 
-// `sum` charged to `weights` by rank, into charges that are lent, and written whole: handed back by value, which proved, a default took 4,219
-// instructions, where it took 3,844. The total needs no second addition: it is the sum, less what no rank could give.
+// `sum` charged to `weights` by rank, into charges that are lent, and written whole: with the charges handed back by value, which proved, a default
+// took 4,219 instructions, where it took 3,844. The total needs no second addition: it is the sum, less what no rank could give.
 #[tactic(auto, using(crate::proofs::Parts::charging))]
 pub fn charge_by_rank(
     sum: u64,

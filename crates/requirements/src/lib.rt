@@ -17,7 +17,7 @@ use sheets::columns::Columns;
 use std::array;
 use std::marker::Model;
 
-// Something for each column of a shares sheet: what the column adds to, the part of a quantum that goes by it, or that part shared out.
+// Something for each column of a shares sheet: what it adds to, the part of a quantum that goes by it, or that part shared out. Lists, as in `Columns`.
 #[derive(Clone, Copy)]
 struct ByColumn<T> {
     volume: T,
@@ -50,7 +50,7 @@ pub struct Shared {
     pub requirements: [u64; 64],
 }
 
-// A column in the size of sums, as the split and the sum of a list take it, and which its total fits.
+// A column in the size of sums, as `split` and `total` take it; what it adds to fits that size too, which is said once, here.
 fn wide(column: &[u32; 64]) -> [u64; 64]
     ensures same { result ≡ column.now }
     ensures small { total result < 2 ^ 64 }

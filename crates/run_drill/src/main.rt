@@ -23,7 +23,7 @@ use text::Text;
 use waterfall::{Allocation, Register};
 use words::Unreadable;
 
-// No answer is longer. Room for one is made before a line is taken, and the answer uses it up: that it is there is no fact of the drill's type.
+// No answer is longer. Room for one is made before a line is taken, and the answer uses it up, so it is no fact of the drill's type.
 const ANSWER_ROOM: usize = 16384;
 
 // A drill: its register as it stands, the latest default, ranks and slip of the latest call, and the answers that are not written yet.
@@ -94,7 +94,8 @@ impl Drill {
         }
     }
 
-    // Takes the lines of the input. No input has more lines than the turns. (make_sheet has a loop like it, which writes nothing.)
+    // Takes the lines of the input. Its turns are counted, since a loop has to be shown to end: no input has so many lines and reads. (make_sheet has a
+    // loop like it, which writes no answers between.)
     fn run(&mut self, rt: &(impl Input + Print + Eprint)) -> io::Result<()> {
         let mut lines = Lines::new();
         for _turn in 0..u64::MAX {

@@ -55,7 +55,7 @@ pub struct Opened {
 pub type Reply = Result<Option<Allocation>, Refusal>;
 
 /// What a drill call hands back. A method that takes the register by `&mut` hands back a reply alone, and so promises reply and register in a clause each.
-// The four calls by value have a body each: as one function over a closure, which proved, a default took 4,544 instructions, where it took 4,219.
+// The four calls by value have a body each: as one function over a closure, which proved, a default took 4,544 instructions, where it then took 4,219.
 #[derive(Clone, Copy, PartialEq, Eq)]
 pub struct Outcome {
     pub reply: Reply,

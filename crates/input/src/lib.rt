@@ -89,7 +89,8 @@ fn part_at(bytes: &[u8], from: usize, count: usize) -> &[u8]
     &bytes[from..from + count]
 }
 
-/// The lines of an input. (std's `lines` asks for memory; no Iterator, since what `next` gives borrows from the lines.) The bytes from `from` to `have` are read and still to be taken, and begin a line.
+/// The lines of an input: the bytes from `from` to `have` are read and still to be taken, and begin a line. (std's `lines` asks for memory; and no
+/// Iterator, since what `next` gives borrows from the lines.)
 // (Two places, since a struct cannot hold a slice of its own bytes.)
 #[derive(Drop)]
 pub struct Lines {

@@ -105,10 +105,10 @@ fn unranked(status: Status, rank: u8) -> bool
 fn misranked(status: &[Status; 64], ranks: &[u8; 64]) -> bool
     ensures { result ≡ misranked (live_in status.now) ranks.now }
 {
-    // By index, and to the end: many ranks are tested at once, which a zip or an `any` prevents.
+    // To the end, and no `any`: so many ranks are tested at once.
     let mut found = false;
-    for i in 0..64 {
-        found |= unranked(status[i], ranks[i]);
+    for (&status, &rank) in status.iter().zip(ranks) {
+        found |= unranked(status, rank);
     }
     found
 }

@@ -1,4 +1,3 @@
-
 use mathlib.Core.Path.{◌≡◌, sym, ap, ◌∙◌}
 use mathlib.Core.Bool.{Bool, ◌||◌, ◌&&◌}
 use native.Mathlib.Omega.{arith}

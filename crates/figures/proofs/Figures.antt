@@ -56,11 +56,6 @@ module _ {A : Type 0} (nobody : A) where
 
 -- figures ------------------------------------------------------------------------
 
--- where a member stands
-pub figure_at : (xs : List ℕ) (m : ℕ) → 0 < m → figure xs m ≡ get_or xs (m - 1) 0
-figure_at xs zero h = absurd (omega arith)
-figure_at xs (suc k) h = rw sub-one
-
 pub figure-le_at : (xs : List ℕ) (m : ℕ) → figure xs m ≤ get_or xs (m - 1) 0
 figure-le_at xs zero = zero-le
 figure-le_at xs (suc k) = rw sub-one (omega arith)

@@ -52,13 +52,6 @@ pub total_bound : (b : ℕ) (xs : List ℕ) → ((k : ℕ) → get_or xs k 0 ≤
 total_bound b [] p = zero-le
 total_bound b (x ∷ xs) p = omega (arith, p 0, total_bound b xs (λ k. p (suc k)), mul-suc b (length xs))
 
--- a list that adds to nothing is all zeros
-pub all_zeros : (xs : List ℕ) → total xs ≡ 0 → xs ≡ replicate (length xs) 0
-all_zeros [] e = refl
-all_zeros (x ∷ xs) e =
-    let z : x ≡ 0 = omega arith in
-    rw (z, ← all_zeros xs (omega arith))
-
 -- a number raised raises the total
 pub total_raised : (xs : List ℕ) (p x : ℕ) → p < length xs → total (set xs p (get_or xs p 0 + x)) ≡ total xs + x
 total_raised [] p x h = absurd (omega arith)

@@ -1,11 +1,13 @@
 // Runs one case of the benchmarks so many times and prints a checksum of the answers, which must equal the Rust implementation's.
-// The cases: ranked, tied, calls, pools and page REPS, and sizing REPS STRESS SHARES.
+// The cases: ranked, tied, calls, pools and page REPS; whole, alone and ordinary REPS, the engine's split, and with `old_` before them the old one; and
+// sizing REPS STRESS SHARES.
 #![tactic(auto)]
 
 mod pages;
 mod sizings;
 
 use bench_defaults::{Case, measured};
+use bench_splits::{Case as Split, Side, measured as measured_split};
 use files::{arg_count, argument, number_at};
 use std::io::Eprint;
 use std::rt::{Env, Files};
@@ -18,6 +20,12 @@ fn checksum(rt: &(impl Env + Files + Eprint), case: &[u8], turns: u64) -> Option
         (b"calls", 3) => Some(measured(Case::Calls, turns)),
         (b"pools", 3) => Some(measured(Case::Pools, turns)),
         (b"page", 3) => Some(pages::run(turns)),
+        (b"whole", 3) => Some(measured_split(Side::Engine, Split::Whole, turns)),
+        (b"alone", 3) => Some(measured_split(Side::Engine, Split::Alone, turns)),
+        (b"ordinary", 3) => Some(measured_split(Side::Engine, Split::Ordinary, turns)),
+        (b"old_whole", 3) => Some(measured_split(Side::Old, Split::Whole, turns)),
+        (b"old_alone", 3) => Some(measured_split(Side::Old, Split::Alone, turns)),
+        (b"old_ordinary", 3) => Some(measured_split(Side::Old, Split::Ordinary, turns)),
         (b"sizing", 5) => Some(sizings::run(rt, turns)),
         _ => None,
     }
@@ -37,7 +45,7 @@ fn main(rt: HostRuntime) {
         }
         None => {
             let _ = eprintln!(rt;
-                "usage: bench_engine ranked|tied|calls|pools|page REPS\n       bench_engine sizing REPS STRESS SHARES"
+                "usage: bench_engine ranked|tied|calls|pools|page REPS\n       bench_engine [old_]whole|alone|ordinary REPS\n       bench_engine sizing REPS STRESS SHARES"
             );
         }
     }

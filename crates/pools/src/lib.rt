@@ -77,15 +77,19 @@ fn charge_others(
     charge_by_rank(sum, contribution, &read, charges)
 }
 
-// A pool's turn of the split of one contribution. Where nothing is left of it, nothing is divided.
+// A pool's turn of the split of one contribution. Where nothing is left of it, or just the sums of the pools, nothing is divided.
 fn portion(left: u32, sum: u64, rest: u64) -> u32
-    requires { (left ≤ amount_limit) × (sum ≤ rest) × (rest ≤ allocation_limit) }
+    requires { (left ≤ amount_limit) × (sum < rest) × (rest ≤ allocation_limit) }
     ensures { result ≡ share_of left sum rest }
 {
     if left == 0 {
         return 0;
     }
-    share(u64::from(left), sum, rest) as u32
+    let left = u64::from(left);
+    if left == rest {
+        return sum as u32;
+    }
+    share(left, sum, rest) as u32
 }
 
 // A pool's portions of what is left of the contributions. The last pool with a sum has all of it, without a division.

@@ -1,7 +1,7 @@
 -- The laws of the marginal rank, which the proofs of the parts of `charge_by_rank` cite.
 use Prim.Native.Nat.{ℕ, zero, suc, ◌+◌, ◌-◌, ◌*◌, ◌≤◌, ◌<◌, zero-le}
 use mathlib.Core.Path.{◌≡◌, refl, ap, sym, ◌∙◌}
-use mathlib.Core.Bool.{Bool, false, cond}
+use mathlib.Core.Bool.{Bool, cond}
 use mathlib.Core.List.{List, [], ◌∷◌, map}
 use mathlib.Core.Logic.{⊎_elim}
 use native.Mathlib.Nat.{eq-or-lt_of_le, sub-zero}
@@ -15,7 +15,7 @@ use Rattle.lists.specs.Sums.{total, plus}
 use Rattle.lists.proofs.Places.{by_order, raised}
 use Rattle.lists.proofs.Sums.{zeros, total_zeros, get_or_zeros, total-plus, plus_assoc, plus_none, none-plus, length-keep, keep-le, cond-le, keep-map_step}
 use Rattle.split.specs.Parts.{Splits}
-use Rattle.split.specs.Split.{split_of, exceeds}
+use Rattle.split.specs.Split.{split_of}
 use Rattle.split.proofs.Laws.{length-split, total_within, total_of-none, split-le, split-within, split_whole, exceeds-none, splits_as}
 use Rattle.ranks.specs.Ranks.{at_rank, rank_gives, charges_from, charges_of}
 use Rattle.ranks.specs.Parts.{Weighed, Totals, Passed, Marginal, Shared, above_rank}
@@ -61,14 +61,6 @@ shares_asked margin ws rs tied charges w s p m n k e =
     (λ k. omega (arith, keep-le (map (eqb margin.rank) rs) ws k, w.weights_fit k))
     (length_at margin.rank ws rs (omega arith) ∙ m)
     k
-
--- where a rank gives nothing, its shares are all 0
-pub unshared : (part : ℕ) (tied : List ℕ) → part ≡ 0 → length tied ≡ member_limit
-    → (replicate member_limit 0 ≡ split_of part tied) × (false ≡ exceeds (split_of part tied) tied)
-unshared part tied z n = (
-  zeros member_limit (split_of part tied) (length-split part tied ∙ n) (total_within part tied (omega arith) ∙ z),
-  sym (exceeds-none (split_of part tied) tied (split-within part tied (omega arith))),
-)
 
 -- what is charged whole ---------------------------------------------------------------
 

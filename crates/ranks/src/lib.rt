@@ -113,7 +113,7 @@ impl Ranked<'_> {
             → charges.new ≡ plus (chosen_by test self.now.weights.now self.now.ranks.now) charges.old }
     {
         let ranks = self.ranks;
-        // By place: tried by a zip with `iter_mut`, which tells a proof as little here as in `split::split`.
+        // By place: tried by a zip with `iter_mut`, which tells a proof as little here as in `split::share_each`.
         for (i, &rank) in ranks.iter().enumerate() {
             let weight = u64::from(self.weights[i]);
             charges[i] += if chosen(rank) { weight } else { 0 };
@@ -133,7 +133,7 @@ impl Ranked<'_> {
 impl Margin {
     // What the rank gives, shared over its members' weights: the charges are the shares, and the answer is the flag of the split. Where the rank gives
     // nothing, nothing is split.
-    #[tactic(auto, using(crate::proofs::Parts::unshared, crate::proofs::Parts::shares_asked, crate::proofs::Laws::length_at))]
+    #[tactic(auto, using(split::proofs::Laws::none_shared, crate::proofs::Parts::shares_asked, crate::proofs::Laws::length_at))]
     fn share(self, ranked: &Ranked, charges: &mut [u64; 64]) -> bool
         requires { Shared self (at_rank self.rank ranked.now.weights.now ranked.now.ranks.now) }
         ensures charges_after { charges.new ≡ split_of self.part (at_rank self.rank ranked.now.weights.now ranked.now.ranks.now) }

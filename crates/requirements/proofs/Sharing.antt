@@ -1,20 +1,14 @@
--- Laws of a quantum shared: a part of 0, and parts joined to requirements.
+-- Laws of a quantum shared: parts joined to requirements.
 use Prim.Native.Nat.{ℕ, ◌+◌, ◌<◌, max}
 use mathlib.Core.Path.{◌≡◌, ap, ◌∙◌}
 use mathlib.Core.Bool.{Bool, false, cond}
 use mathlib.Core.List.{List, map}
 use native.Mathlib.Omega.{arith}
 use Rattle.std.proofs.lemmas.List.{get_or-map}
-use lib.ListN.{length, get_or, replicate, length-map}
-use Rattle.lists.specs.Limits.{member_limit, contribution_floor}
+use lib.ListN.{length, get_or, length-map}
+use Rattle.lists.specs.Limits.{contribution_floor}
 use Rattle.lists.specs.Sums.{plus, keep}
-use Rattle.lists.proofs.Sums.{zeros, length-plus, get_or-plus, length-keep, get_or-keep}
-use Rattle.split.specs.Split.{split_of}
-use Rattle.split.proofs.Laws.{length-split, total_of-none}
-
--- of a sum of 0 everyone's share is 0
-pub no_shares : (l : ℕ) (ws : List ℕ) → length ws ≡ member_limit → l ≡ 0 → replicate member_limit 0 ≡ split_of l ws
-no_shares l ws h e = zeros member_limit (split_of l ws) (length-split l ws ∙ h) (rw e (total_of-none ws))
+use Rattle.lists.proofs.Sums.{length-plus, get_or-plus, length-keep, get_or-keep}
 
 -- three parts joined
 abbrev pub joined_of : List Bool → List ℕ → List ℕ → List ℕ → List ℕ

@@ -84,7 +84,7 @@ fn unshared(part: u64, whole: u64) -> bool
 
 // A part of a quantum by its column. Nothing is divided where there is nothing to share. Bounds are clauses, here and in the layers: each sum has its own,
 // and a type made for one would be taken apart again by what splits, adds or lowers it.
-#[tactic(auto, using(crate::proofs::Sharing::no_shares))]
+#[tactic(auto, using(split::proofs::Laws::none_shared))]
 fn part(sum: u64, whole: u64, weights: &[u32; 64]) -> [u64; 64]
     requires moderate { sum ≤ allocation_limit }
     requires whole_is { whole ≡ total weights.now }

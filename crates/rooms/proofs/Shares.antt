@@ -7,9 +7,9 @@ use native.Mathlib.Omega.{arith}
 use lib.ListN.{length, replicate}
 use Rattle.lists.specs.Limits.{member_limit}
 use Rattle.lists.specs.Sums.{total}
-use Rattle.lists.proofs.Sums.{zeros, get_or_zeros}
+use Rattle.lists.proofs.Sums.{get_or_zeros}
 use Rattle.split.specs.Split.{split_of, exceeds}
-use Rattle.split.proofs.Laws.{length-split, total_within, exceeds-none}
+use Rattle.split.proofs.Laws.{total_within, exceeds-none, none_shared}
 use Rattle.rooms.specs.Rooms.{gives}
 use Rattle.rooms.specs.Parts.{Shares}
 
@@ -41,12 +41,7 @@ shared-none rooms left h e =
     record {
       total_is = sym g;
       rest_is = omega arith;
-      shares_are =
-          zeros
-          member_limit
-          (split_of (gives left (total rooms)) rooms)
-          (length-split (gives left (total rooms)) rooms ∙ h)
-          (total_within (gives left (total rooms)) rooms (omega arith) ∙ g);
+      shares_are = (none_shared (gives left (total rooms)) rooms g h).0;
       over_is = sym (exceeds-none (replicate member_limit 0) rooms (λ k. omega (arith, get_or_zeros member_limit k)));
     }
 

@@ -1,20 +1,22 @@
 -- The laws of `split_of`: what the callers of `split` know of its shares.
 use Prim.Native.Nat.{ℕ, zero, suc, ◌+◌, ◌-◌, ◌*◌, ◌/◌, ◌≤◌, ◌<◌, zero-le}
 use mathlib.Core.Path.{◌≡◌, refl, ap, sym, ◌∙◌}
-use mathlib.Core.Bool.{false, ◌||◌}
+use mathlib.Core.Bool.{true, false}
 use mathlib.Core.List.{List, [], ◌∷◌, ◌++◌}
-use mathlib.Core.Logic.{⊎_elim}
-use native.Mathlib.Nat.{mul-add, mul_comm, zero-mul, zero-div, mul-le-mul, mul-le-mul_left, mul-le-mul_right, div-le_of_le-mul, mul-div_right, mul-div_left, le-div_iff_mul-le, eq-zero-or-pos, sub-zero}
+use mathlib.Core.Logic.{◌⊎◌, inl, ⊎_elim}
+use native.Mathlib.Nat.{mul-add, mul_comm, zero-mul, zero-div, mul-le-mul, mul-le-mul_left, mul-le-mul_right, div-le_of_le-mul, div-lt_iff_lt-mul, mul-lt-mul_of_pos_left, mul-div_right, mul-div_left, le-div_iff_mul-le, eq-zero-or-pos, sub-zero}
 use native.Mathlib.Numerals.{add-one}
 use native.Mathlib.Omega.{arith}
-use borrow.Author.Tests.{le-ltb}
+use borrow.Author.Tests.{lt-ltb, le-ltb}
+use Rattle.std.proofs.lemmas.Bool.{or_left, or_right}
 use lib.Dec.{ltb}
-use lib.ListN.{length, get_or, take, drop, set, drop_of_length-le}
+use lib.ListN.{length, get_or, take, drop, set, replicate, length-drop}
 use lib.Seq.{drop-cons}
 use Rattle.lists.specs.Limits.{member_limit, amount_limit, allocation_limit}
 use Rattle.lists.specs.Sums.{total}
-use Rattle.lists.proofs.Fill.{fill_turn, fill_done}
-use Rattle.lists.proofs.Sums.{get_or-le-total}
+use Rattle.lists.proofs.Fill.{fill_turn}
+use Rattle.lists.proofs.Sums.{get_or-le-total, zeros}
+use Rattle.lists.proofs.Places.{by_order}
 use Rattle.split.specs.Split.{share_of, split_of, exceeds}
 use Rattle.split.specs.Parts.{Splits, product_limit}
 
@@ -24,6 +26,11 @@ use Rattle.split.specs.Parts.{Splits, product_limit}
 pub share-le_left : (l w t : ℕ) → w ≤ t → share_of l w t ≤ l
 unfolding share_of
 share-le_left l w t h = div-le_of_le-mul t (mul-le-mul_right l h)
+
+-- and less, where there is something and others have a part in it
+pub share-lt_left : (l w t : ℕ) → 0 < l → w < t → share_of l w t < l
+unfolding share_of
+share-lt_left l w t p h = (div-lt_iff_lt-mul (omega arith)).1 (rw (mul_comm w l) (mul-lt-mul_of_pos_left h p))
 
 -- a share is at most its weight, where what is left is at most the weights
 share-le_weight : (l w t : ℕ) → l ≤ t → share_of l w t ≤ w
@@ -41,13 +48,13 @@ unfolding share_of
 share-last l w h = mul-div_right l h
 
 -- a sum of all the weights gives a weight itself
-share_whole : (w v : ℕ) → share_of (w + v) w (w + v) ≡ w
+pub share_whole : (l w : ℕ) → w ≤ l → share_of l w l ≡ w
 unfolding share_of
-share_whole w v =
+share_whole l w h =
     ⊎_elim
-    (λ z. share-none (w + v) w (w + v) (omega arith) ∙ omega arith)
+    (λ z. share-none l w l (omega arith) ∙ omega arith)
     (λ p. mul-div_left w p)
-    (eq-zero-or-pos (w + v))
+    (eq-zero-or-pos l)
 
 cross : (w v m : ℕ) → m ≤ w → m * (w + v) ≤ w * (v + m)
 cross w v m h = omega (arith, mul-add m w v, mul-add w v m, mul_comm m w, mul-le-mul_right v h)
@@ -66,34 +73,6 @@ share-rest w v l h = ⊎_elim (λ z. omega arith) (λ p. above p) (eq-zero-or-po
         let q : l - v ≤ w * (v + (l - v)) / (w + v) = at_least w v (l - v) (omega arith) (omega arith) in
         let r : l - v ≤ w * l / (w + v) = rw e at q in
         omega arith
-
--- a loop's turn --------------------------------------------------------------
-
-split_step : (l : ℕ) (ws : List ℕ) (i s : ℕ) → i < length ws → s ≡ share_of l (get_or ws i 0) (total (drop i ws))
-    → split_of l (drop i ws) ≡ s ∷ split_of (l - s) (drop (i + 1) ws)
-unfolding split_of
-split_step l ws i s h e = rw (e, add-one, drop-cons ws i 0)
-
--- the list filled up to k, with the split of what is left behind it, is the same after one more turn
-pub split_turn : (l : ℕ) (ws out r : List ℕ) (k t s : ℕ) → k < length ws → k < length out → t ≡ total (drop k ws) → s ≡ share_of l (get_or ws k 0) t
-    → take k out ++ split_of l (drop k ws) ≡ r
-    → take (k + 1) (set out k s) ++ split_of (l - s) (drop (k + 1) ws) ≡ r
-split_turn l ws out r k t s hw ho f e h = fill_turn out r _ _ k s ho (split_step l ws k s hw (rw f at e)) h
-
--- a share that is above its weight here, or one that is further on
-pub exceeds_turn : (l : ℕ) (ws : List ℕ) (k t s : ℕ) → k < length ws → t ≡ total (drop k ws) → s ≡ share_of l (get_or ws k 0) t
-    → exceeds (split_of l (drop k ws)) (drop k ws) ≡ (ltb (get_or ws k 0) s || exceeds (split_of (l - s) (drop (k + 1) ws)) (drop (k + 1) ws))
-unfolding exceeds
-exceeds_turn l ws k t s h f e = rw (split_step l ws k s h (rw f at e), add-one, drop-cons ws k 0)
-
-pub exceeds-end : (l : ℕ) (ws : List ℕ) (k : ℕ) → length ws ≤ k → exceeds (split_of l (drop k ws)) (drop k ws) ≡ false
-unfolding exceeds split_of
-exceeds-end l ws k h = rw (drop_of_length-le ws h)
-
--- and at the end the list is the split
-pub split_done : (l : ℕ) (ws out r : List ℕ) (k : ℕ) → length ws ≤ k → length out ≤ k → take k out ++ split_of l (drop k ws) ≡ r → out ≡ r
-unfolding split_of
-split_done l ws out r k hw ho h = fill_done out r _ k ho (ap (split_of l) (drop_of_length-le ws hw)) h
 
 -- the split as a whole --------------------------------------------------------
 
@@ -172,11 +151,27 @@ unfolding split_of
 split_whole [] = refl
 split_whole (w ∷ ws) =
     let e : w + total ws - w ≡ total ws = omega arith in
-    rw (share_whole w (total ws), e, split_whole ws)
+    rw (share_whole (w + total ws) w (omega arith), e, split_whole ws)
 
 -- a sum of 0 gives everybody 0
 pub total_of-none : (ws : List ℕ) → total (split_of 0 ws) ≡ 0
 total_of-none ws = total_within 0 ws zero-le
+
+same_zeros : (xs ys : List ℕ) → length xs ≡ length ys → total xs ≡ 0 → total ys ≡ 0 → xs ≡ ys
+same_zeros xs ys e x y = sym (zeros (length xs) xs refl x) ∙ zeros (length xs) ys (sym e) y
+
+-- where one weight alone is above 0, it takes the sum, and the others have the 0 that they are
+pub split_alone : (l : ℕ) (ws : List ℕ) (k : ℕ) → 0 < get_or ws k 0 → total ws ≡ get_or ws k 0 → split_of l ws ≡ set ws k l
+unfolding split_of
+split_alone l [] k p e = absurd (omega arith)
+split_alone l (w ∷ ws) zero p e =
+    let z : total ws ≡ 0 = omega arith in
+    let n : w + total ws ≡ w = omega arith in
+    let s : (m : ℕ) → split_of m ws ≡ ws = λ m. same_zeros (split_of m ws) ws (length-split m ws) (total-none m ws z) z in
+    rw (n, share-last l w p, s (l - l))
+split_alone l (w ∷ ws) (suc k) p e =
+    let z : w ≡ 0 = omega (arith, get_or-le-total ws k) in
+    rw (z, share-none l 0 (0 + total ws) refl, sub-zero, split_alone l ws k p (omega arith))
 
 -- places of weight 0 change nobody else's share: a weight of 0 put in anywhere puts in a share of 0, and the others stand
 pub split_skips : (l : ℕ) (xs ys : List ℕ) → split_of l (xs ++ 0 ∷ ys) ≡ take (length xs) (split_of l (xs ++ ys)) ++ 0 ∷ drop (length xs) (split_of l (xs ++ ys))
@@ -196,6 +191,71 @@ unfolding exceeds
 exceeds-none [] weights h = refl
 exceeds-none (s ∷ shares) [] h = rw (le-ltb 0 s (h 0), exceeds-none shares [] (λ k. h (suc k)))
 exceeds-none (s ∷ shares) (w ∷ weights) h = rw (le-ltb w s (h 0), exceeds-none shares weights (λ k. h (suc k)))
+
+-- shares that add to more than the weights: one is above its own
+exceeds-some : (shares weights : List ℕ) → length shares ≡ length weights → total weights < total shares → exceeds shares weights ≡ true
+unfolding exceeds
+exceeds-some [] weights e h = absurd (omega arith)
+exceeds-some (s ∷ shares) [] e h = absurd (omega arith)
+exceeds-some (s ∷ shares) (w ∷ weights) e h =
+    ⊎_elim
+    (λ z. or_right (ltb w s) (exceeds shares weights) (exceeds-some shares weights (omega arith) (omega arith)))
+    (λ p. or_left (ltb w s) (exceeds shares weights) (lt-ltb w s (omega arith)))
+    (eq-zero-or-pos (s - w))
+
+-- so one is above its weight where the sum is above all the weights, and else none is
+pub exceeds_is : (l : ℕ) (ws : List ℕ) → 0 < total ws → exceeds (split_of l ws) ws ≡ ltb (total ws) l
+exceeds_is l ws p =
+    by_order
+    (total ws)
+    l
+    (λ a. exceeds-some (split_of l ws) ws (length-split l ws) (omega (arith, total-split l ws p)) ∙ sym (lt-ltb (total ws) l a))
+    (λ e. within (omega arith))
+    (λ b. within (omega arith))
+  where
+    within : l ≤ total ws → exceeds (split_of l ws) ws ≡ ltb (total ws) l
+    within h = exceeds-none (split_of l ws) ws (split-within l ws h) ∙ sym (le-ltb (total ws) l h)
+
+-- where nothing is divided ------------------------------------------------------------
+
+-- a sum of all the weights gives each its weight, and nobody more
+pub whole_shared : (l : ℕ) (ws : List ℕ) → l ≡ total ws → (ws ≡ split_of l ws) × (false ≡ exceeds (split_of l ws) ws)
+whole_shared l ws e =
+    rw (e, split_whole ws) (refl, sym (exceeds-none ws ws (λ k. omega arith)))
+
+-- a sum of 0, or weights of 0 alone, give everybody 0
+pub nothing_shared : (n l : ℕ) (ws : List ℕ) → length ws ≡ n → (l ≡ 0) ⊎ (total ws ≡ 0) → (replicate n 0 ≡ split_of l ws) × (false ≡ exceeds (split_of l ws) ws)
+nothing_shared n l ws h e =
+    let z : total (split_of l ws) ≡ 0 = ⊎_elim (λ s. omega (arith, total_within l ws (omega arith))) (λ w. total-none l ws w) e in (
+      zeros n (split_of l ws) (length-split l ws ∙ h) z,
+      sym (exceeds-none (split_of l ws) ws (λ k. omega (arith, get_or-le-total (split_of l ws) k))),
+    )
+
+-- a sum of 0 among the members
+pub none_shared : (l : ℕ) (ws : List ℕ) → l ≡ 0 → length ws ≡ member_limit → (replicate member_limit 0 ≡ split_of l ws) × (false ≡ exceeds (split_of l ws) ws)
+none_shared l ws e h = nothing_shared member_limit l ws h (inl e)
+
+-- the shares one by one -----------------------------------------------------------
+
+pub split_step : (l : ℕ) (ws : List ℕ) (i s : ℕ) → i < length ws → s ≡ share_of l (get_or ws i 0) (total (drop i ws))
+    → split_of l (drop i ws) ≡ s ∷ split_of (l - s) (drop (i + 1) ws)
+unfolding split_of
+split_step l ws i s h e = rw (e, add-one, drop-cons ws i 0)
+
+-- the list filled up to k, with the split of what is left behind it, is the same after one more turn
+pub split_turn : (l : ℕ) (ws out r : List ℕ) (k t s : ℕ) → k < length ws → k < length out → t ≡ total (drop k ws) → s ≡ share_of l (get_or ws k 0) t
+    → take k out ++ split_of l (drop k ws) ≡ r
+    → take (k + 1) (set out k s) ++ split_of (l - s) (drop (k + 1) ws) ≡ r
+split_turn l ws out r k t s hw ho f e h = fill_turn out r _ _ k s ho (split_step l ws k s hw (rw f at e)) h
+
+-- with one weight alone left above 0 it takes what is left, and those behind it have nothing
+pub split_last : (l : ℕ) (ws : List ℕ) (k n : ℕ) → k < length ws → n ≡ length ws - (k + 1) → 0 < get_or ws k 0 → get_or ws k 0 ≡ total (drop k ws)
+    → split_of l (drop k ws) ≡ l ∷ replicate n 0
+split_last l ws k n h e p t =
+    let d : drop k ws ≡ get_or ws k 0 ∷ drop (k + 1) ws = rw add-one (drop-cons ws k 0 h) in
+    let m : length (drop (k + 1) ws) ≡ n = omega (arith, length-drop (k + 1) ws) in
+    let z : total (drop (k + 1) ws) ≡ 0 = omega (arith, ap total d) in
+    rw (d, split_alone l (get_or ws k 0 ∷ drop (k + 1) ws) 0 p (omega arith), zeros n (drop (k + 1) ws) m z)
 
 -- what a split asks -----------------------------------------------------------
 

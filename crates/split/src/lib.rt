@@ -1,14 +1,17 @@
-// A sum shared over weights in rising order, each share rounded down: document 01, "The split".
+// A sum shared over weights in rising order, each share rounded down: document 01, "The split". Where the shares are plain already nothing is
+// divided: document 02, request 4, "Spare the division".
 #![tactic(auto)]
 
-ghost use Rattle.std.specs.Prelude.{◌≡◌, ◌*◌, ◌≤◌};
+ghost use Rattle.std.specs.Prelude.{◌≡◌, ◌*◌, ◌≤◌, ◌<◌};
 ghost use Rattle.split.specs.Split.{share_of, split_of, exceeds};
 ghost use Rattle.split.specs.Parts.{Splits, product_limit};
 
-// One weight's share of what is left of the sum: a turn of the split. A weight of 0 takes nothing, and costs no division.
+// One weight's share of what is left of the sum: a turn of the split. A weight of 0 takes nothing, and costs no division. What is plain is not asked
+// here: something is left to share, and other weights are left beside this one.
 #[tactic(auto, unfolding(crate::specs::Split::share_of))]
 pub fn share(left: u64, weight: u64, rest: u64) -> u64
-    requires { (weight * left ≤ product_limit) × (weight ≤ rest) }
+    requires fits { weight * left ≤ product_limit }
+    requires divisible { (0 < left) × (weight < rest) }
     ensures { result ≡ share_of left weight rest }
 {
     if weight == 0 {
@@ -17,23 +20,48 @@ pub fn share(left: u64, weight: u64, rest: u64) -> u64
     weight * left / rest
 }
 
+// The shares one by one, until one weight alone is left above zero: it takes what is left, and those behind it nothing. A turn tells that by one
+// comparison, so that no pass looks for it. Before that weight something is always left.
+fn share_each(sum: u64, whole: u64, weights: &[u64], shares: &mut [u64])
+    requires asked { Splits sum whole weights.now shares.old }
+    requires divisible { (0 < sum) × (0 < whole) }
+    ensures { shares.new ≡ split_of sum weights.now }
+{
+    let mut left = sum;
+    let mut rest = whole;
+    // By place: tried by a zip with `iter_mut`, of which a proof knows the slice's length afterwards, and not its elements.
+    for (i, &weight) in weights.iter().enumerate() {
+        if weight == rest {
+            shares[i] = left;
+            shares[i + 1..].fill(0);
+            return;
+        }
+        let part = share(left, weight, rest);
+        shares[i] = part;
+        left -= part;
+        rest -= weight;
+    }
+}
+
 // `sum` shared over `weights`, whose total is `whole`: callers have it, so it is not added up again. The answer is whether a share comes out
 // above its weight: a flag, and no Result, for the shares are promised either way, and fund sizing leaves it unread.
+#[tactic(auto, using(crate::proofs::Laws::whole_shared, crate::proofs::Laws::nothing_shared))]
 pub fn split(sum: u64, whole: u64, weights: &[u64], shares: &mut [u64]) -> bool
     requires { Splits sum whole weights.now shares.old }
     ensures shares_after { shares.new ≡ split_of sum weights.now }
     ensures over_is { result ≡ exceeds (split_of sum weights.now) weights.now }
 {
-    let mut left = sum;
-    let mut rest = whole;
-    let mut over = false;
-    // By place: tried by a zip with `iter_mut`, of which a proof knows the slice's length afterwards, and not its elements.
-    for (i, &weight) in weights.iter().enumerate() {
-        let part = share(left, weight, rest);
-        shares[i] = part;
-        over |= weight < part;
-        left -= part;
-        rest -= weight;
+    // A sum of all the weights gives each its weight.
+    if sum == whole {
+        shares.copy_from_slice(weights);
+        return false;
     }
-    over
+    // Nothing to share, or nobody to share it among.
+    if sum == 0 || whole == 0 {
+        shares.fill(0);
+        return false;
+    }
+    share_each(sum, whole, weights, shares);
+    // Some share is above its weight just where the sum is above all the weights.
+    whole < sum
 }

@@ -1,4 +1,4 @@
--- `split::split` meets its contract. The loop's invariant: the shares so far, with the split of what is left over the weights that are left
+-- `old::split` meets its contract. The loop's invariant: the shares so far, with the split of what is left over the weights that are left
 -- behind them, are the split of the whole.
 use Prim.Native.Nat.{◌≤◌}
 use mathlib.Core.Path.{◌≡◌}
@@ -7,7 +7,7 @@ use mathlib.Core.List.{◌++◌}
 use lib.ListN.{length, take, drop}
 use Rattle.lists.specs.Sums.{total}
 use Rattle.split.specs.Split.{split_of, exceeds}
-use Rattle.split.proofs.split.Given as goal
+use Rattle.bench_splits.proofs.old.split.Given as goal
 
 abbrev pub invariant-loop-i : goal.invariant-loop-i
 invariant-loop-i l =

@@ -1,0 +1,2 @@
+-- The laws of the old split's turns.
+pub mod Turns

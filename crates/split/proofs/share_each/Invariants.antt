@@ -1,0 +1,12 @@
+use Prim.Native.Nat.{◌≤◌, ◌<◌}
+use mathlib.Core.Path.{◌≡◌}
+use mathlib.Core.List.{◌++◌}
+use lib.ListN.{length, take, drop}
+use Rattle.lists.specs.Sums.{total}
+use Rattle.split.specs.Split.{split_of}
+use Rattle.split.proofs.share_each.Given as goal
+
+abbrev pub invariant-loop-i : goal.invariant-loop-i
+invariant-loop-i l =
+    (length l.shares ≡ length l.weights) × (l.left ≤ l.sum) × (l.rest ≡ total (drop l.i l.weights)) × (0 < l.left) × (0 < l.rest)
+    × (take l.i l.shares ++ split_of l.left (drop l.i l.weights) ≡ split_of l.sum l.weights)

@@ -2,7 +2,8 @@
 
 use crate::bench_files::{register_sheet, OWN};
 use crate::engine::{
-    print_page, size, DefaultAnswer, Register, DEFAULT_SLIP, MEMBERS, MOST_JUNIOR, PAGE_BYTES,
+    print_page, size, DefaultAnswer, Register, Split, DEFAULT_SLIP, MEMBERS, MOST_JUNIOR,
+    PAGE_BYTES,
 };
 use std::ffi::OsString;
 use std::fs;
@@ -10,7 +11,8 @@ use std::hint::black_box;
 use std::io;
 
 /// The cases by name; `sizing` reads its two sheets from files.
-pub const CASES: &str = "ranked, tied, calls, pools, page, sizing STRESS SHARES";
+pub const CASES: &str =
+    "ranked, tied, calls, pools, page, whole, alone, ordinary, sizing STRESS SHARES";
 
 const DEFAULTER: u64 = 17;
 const PREVAILING: u64 = 70_000_000;
@@ -23,6 +25,7 @@ pub fn bench(case: &str, repetitions: u64, files: &[OsString]) -> io::Result<Opt
             Some(repeat_default(&DefaultCase::named(case), repetitions))
         }
         ("page", []) => Some(repeat_page(repetitions)),
+        ("whole" | "alone" | "ordinary", []) => Some(repeat_split(case, repetitions)),
         ("sizing", [stress, shares]) => {
             let (stress, shares) = (fs::read(stress)?, fs::read(shares)?);
             Some(repeat_sizing(&stress, &shares, repetitions))
@@ -109,6 +112,38 @@ fn repeat_default(case: &DefaultCase, repetitions: u64) -> u64 {
             .expect("a good default");
         black_box(&register);
         fold_default(sum, &answer, &slip, turn as usize % MEMBERS)
+    })
+}
+
+/// The place of the weight that is alone.
+const ALONE: usize = 40;
+
+/// Odd amounts, in `alone` all but one of them zero.
+fn weights(case: &str) -> [u64; MEMBERS] {
+    std::array::from_fn(|place| match case {
+        "alone" if place != ALONE => 0,
+        _ => 1_000_000 + 37 * place as u64,
+    })
+}
+
+/// One split of the weights' whole total in `whole`, else of half of it and a little more from turn to turn.
+fn repeat_split(case: &str, repetitions: u64) -> u64 {
+    let weights = weights(case);
+    let whole = weights.iter().sum();
+    (0..repetitions).fold(0, |checksum, turn| {
+        let sum = if case == "whole" {
+            whole
+        } else {
+            whole / 2 + turn % 8
+        };
+        let mut split = Split::new(sum, whole);
+        let shares = weights.map(|weight| split.share(weight));
+        let above = shares
+            .iter()
+            .zip(&weights)
+            .any(|(share, weight)| share > weight);
+        let shared = [above as u64, shares[ALONE], shares[turn as usize % MEMBERS]];
+        shared.into_iter().fold(checksum, fold)
     })
 }
 
@@ -199,6 +234,15 @@ mod tests {
             assert_eq!(layers(case), [true, true, true, true, false, false]);
         }
         assert_eq!(layers("calls"), [true; 6]);
+    }
+
+    #[test]
+    fn weights_of_the_splits() {
+        assert_eq!(weights("whole").iter().filter(|&&w| w > 0).count(), 64);
+        assert_eq!(weights("ordinary"), weights("whole"));
+        let alone = weights("alone");
+        assert_eq!(alone.iter().sum::<u64>(), 1_001_480);
+        assert_eq!(alone[ALONE], 1_001_480);
     }
 
     #[test]

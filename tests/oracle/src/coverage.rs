@@ -48,6 +48,9 @@ impl Coverage {
         add(&mut self.tally.pools_accepted, tally.pools_accepted);
         self.tally.tied += tally.tied;
         add(&mut self.tally.joined, tally.joined);
+        self.tally.just_sums += tally.just_sums;
+        self.tally.alone += tally.alone;
+        self.tally.all_called += tally.all_called;
         self.tally.later_loss += tally.later_loss;
         self.tally.later_rank += tally.later_rank;
     }
@@ -66,7 +69,7 @@ impl Coverage {
         self.add_tally(other.tally);
     }
 
-    /// What many drills come to in their pools, and these never did.
+    /// What many drills come to in their pools and splits, and these never did.
     pub fn unreached(&self) -> Vec<&'static str> {
         let t = &self.tally;
         let times = [
@@ -79,6 +82,9 @@ impl Coverage {
             ("a fallen call that joins pool 1", t.joined[0]),
             ("a fallen call that joins a later pool", t.joined[1]),
             ("a fallen call where no loss is left", t.joined[2]),
+            ("a contribution that is just the pools' sums", t.just_sums),
+            ("a rank that gives a part by one member alone", t.alone),
+            ("a default that calls all there is", t.all_called),
             ("refusal 13 for a later pool", t.later_loss),
             ("refusal 15 for a later pool", t.later_rank),
             ("refusal 21", self.refusals[21]),
@@ -136,6 +142,10 @@ impl Coverage {
         println!(
             "fallen calls that joined pool 1: {}; a later pool: {}; pool 1 where no loss was left: {}",
             t.joined[0], t.joined[1], t.joined[2]
+        );
+        println!(
+            "contributions that were just the sums of several pools: {}; ranks that gave a part by one member alone: {}; defaults that called all there was: {}",
+            t.just_sums, t.alone, t.all_called
         );
         println!(
             "refused for a later pool alone, 13: {}; 15: {}",
@@ -209,17 +219,21 @@ mod tests {
         assert!(tally.tied > 50 && tally.joined.iter().all(|&times| times > 5));
         assert!(coverage.refusals[21] > 100 && coverage.refusals[22] > 20);
         assert!(tally.later_loss > 10 && tally.later_rank > 50);
+        assert!(tally.just_sums > 10 && tally.alone > 100 && tally.all_called > 100);
     }
 
     #[test]
     fn what_a_run_did_not_reach() {
         let mut coverage = Coverage::default();
-        assert_eq!(coverage.unreached().len(), 13);
+        assert_eq!(coverage.unreached().len(), 16);
         coverage.add_output("refused 21\nrefused 22\n");
         coverage.add_tally(Tally {
             pools: [1; 5],
             pools_accepted: [1, 1, 0, 1, 0],
             joined: [1; 3],
+            just_sums: 1,
+            alone: 1,
+            all_called: 1,
             later_loss: 1,
             later_rank: 1,
             ..Tally::default()

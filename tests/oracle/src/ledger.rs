@@ -37,6 +37,12 @@ pub struct Tally {
     /// Accepted defaults of several pools, with charges, whose fallen call joined pool 1, a later one,
     /// or pool 1 for want of any loss left.
     pub joined: [u64; 3],
+    /// Contributions in accepted defaults that are just the sums of several pools together.
+    pub just_sums: u64,
+    /// Ranks that in accepted defaults give a part, and have it of one member alone.
+    pub alone: u64,
+    /// Accepted defaults that call all that the caps leave.
+    pub all_called: u64,
     /// Defaults refused with 13 for a later pool alone.
     pub later_loss: u64,
     /// Defaults refused with 15 for a later pool alone.
@@ -351,6 +357,7 @@ impl Ledger {
         self.charges += placed;
         self.shortfalls += short;
         self.tally_accepted(member, losses, &ranks, &by_rule);
+        self.tally.all_called += (layers[5] > 0 && short > 0) as u64;
         ensure(loss + fallen == placed + short, || {
             format!("losses {loss} and fallen {fallen}, but {placed} placed and {short} short")
         })?;
@@ -375,6 +382,8 @@ impl Ledger {
         tally.pools_accepted[pools_place(losses)] += 1;
         tally.most_junior += most_junior as u64;
         tally.tied += by_rule.tied() as u64;
+        tally.just_sums += by_rule.just_sums;
+        tally.alone += by_rule.alone();
         match by_rule.joined {
             _ if losses.len() == 1 || !by_rule.charged() => {}
             Some((0, true)) => tally.joined[0] += 1,

@@ -15,6 +15,7 @@ pub use page::{print_page, PAGE_BYTES};
 pub use register::{Call, Register};
 pub use sheet::{MEMBER_SHEET_BYTES, RECORD, STRESS_SHEET_BYTES};
 pub use sizing::{review, size};
+pub use split::Split;
 pub use waterfall::DefaultAnswer;
 
 /// Members are numbered 1 to this; arrays hold member m at m - 1.

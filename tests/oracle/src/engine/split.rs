@@ -17,8 +17,9 @@ impl Split {
     /// most 26,000,000,000 and a contribution at most 400,000,000: the product fits.
     #[inline]
     pub fn share(&mut self, weight: u64) -> u64 {
-        if weight == 0 {
-            return 0;
+        if weight == 0 || self.sum == 0 {
+            self.weights -= weight;
+            return 0; // nothing to share with, or nothing left to share
         }
         let share = if self.sum == self.weights {
             weight // the whole total is taken: weight * sum / sum
@@ -55,6 +56,14 @@ mod tests {
         assert_eq!(split(0, &[0, 0]), [0, 0]);
         assert_eq!(split(7, &[0, 0, 0]), [0, 0, 0]);
         assert_eq!(split(7, &[5, 0]), [7, 0]);
+    }
+
+    #[test]
+    fn plain_shares() {
+        assert_eq!(split(0, &[3, 0, 4]), [0, 0, 0]);
+        assert_eq!(split(7, &[3, 0, 4]), [3, 0, 4]);
+        assert_eq!(split(5, &[0, 9, 0]), [0, 5, 0]);
+        assert_eq!(split(9, &[5, 3, 2]), [4, 3, 2]);
     }
 
     #[test]

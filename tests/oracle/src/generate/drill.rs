@@ -383,6 +383,7 @@ impl Maker {
         let place = self.register().live_place(member);
         let sum = match place {
             Ok(place) if pools > 1 && self.rng.chance(10) => self.nearly_all(place),
+            Ok(place) if pools > 1 && self.rng.chance(10) => self.just_one(place),
             Ok(place) => self.loss(place),
             Err(_) => self.rng.below(1_000),
         };
@@ -408,6 +409,20 @@ impl Maker {
         let fallen = self.register().outstanding[place] as u64;
         let loss = sums[..4].iter().sum::<u64>().saturating_sub(fallen);
         loss.saturating_sub(self.rng.below(9)).min(MAX_SUM)
+    }
+
+    /// A loss that leaves to the pools together just what another member has contributed.
+    fn just_one(&mut self, place: usize) -> u64 {
+        let others = self.places(|_, other| other != place);
+        if others.is_empty() {
+            return self.loss(place);
+        }
+        let other = self.rng.pick(&others);
+        let register = self.register();
+        let to_layer_4 = layer_sums(register, place)[..3].iter().sum::<u64>();
+        let loss = to_layer_4 + register.contribution[other] as u64;
+        loss.saturating_sub(register.outstanding[place] as u64)
+            .min(MAX_SUM)
     }
 
     /// Losses beside a call that falls: none at all, about as much as others have, none in pool 1.

@@ -22,12 +22,16 @@ struct Pool {
     ranks: Vec<u8>,
     portions: ByMember,
     charges: ByMember,
+    /// Whether a rank gives a part that one member alone has to give.
+    alone: bool,
 }
 
 /// The charges of a whole layer 4.
 pub struct Charged {
     pools: Vec<Pool>,
     tie: ByMember,
+    /// How many contributions are just the sums of several pools together.
+    pub just_sums: u64,
     /// The pool that a fallen call joined, and whether that had a loss left.
     pub joined: Option<(usize, bool)>,
 }
@@ -85,7 +89,21 @@ pub fn charge(found: &Found, losses: &[u64], ranks: &[u8]) -> Charged {
         *standing -= pools.iter().map(|pool| pool.charges[member]).sum::<Sum>();
     }
     let tie = split_over(sums.iter().sum::<Sum>() - met, &standing);
-    Charged { pools, tie, joined }
+    Charged {
+        pools,
+        tie,
+        just_sums: just_sums(&sums, &found.contributions),
+        joined,
+    }
+}
+
+/// Contributions that the split over the pools' sums divides into those sums themselves.
+fn just_sums(sums: &[Sum], contributions: &ByMember) -> u64 {
+    if sums.iter().filter(|&&sum| sum > 0).count() < 2 {
+        return 0;
+    }
+    let whole: Sum = sums.iter().sum();
+    contributions.values().filter(|&&c| c == whole).count() as u64
 }
 
 /// What each pool has to place, and which of them a fallen call joined.
@@ -116,7 +134,10 @@ impl Pool {
             tied.insert(member, portion);
         }
         let mut charges = ByMember::new();
+        let mut alone = false;
         for tied in by_rank.into_values().rev() {
+            let with_some = tied.values().filter(|&&portion| portion > 0).count();
+            alone |= with_some == 1 && 0 < left && left < total(&tied);
             let shares = split_over(left, &tied);
             left -= total(&shares);
             charges.extend(shares);
@@ -125,6 +146,7 @@ impl Pool {
             ranks: ranks.to_vec(),
             portions,
             charges,
+            alone,
         }
     }
 
@@ -153,6 +175,11 @@ impl Charged {
             })?;
         }
         Ok(())
+    }
+
+    /// How many pools have a rank that gives a part by one member alone.
+    pub fn alone(&self) -> u64 {
+        self.pools.iter().filter(|pool| pool.alone).count() as u64
     }
 
     /// The pools' charges and the tie's add to what the slip shows.
@@ -229,11 +256,30 @@ mod tests {
     }
 
     #[test]
+    fn plain_splits_are_told() {
+        let found = Found {
+            fallen: 0,
+            first_layers: 0,
+            contributions: by_member(&[10, 4, 10]),
+        };
+        let told = |losses: &[u64], pool: [u8; 3]| {
+            let charged = charge(&found, losses, &ranks(pool).repeat(losses.len()));
+            (charged.just_sums, charged.alone())
+        };
+        assert_eq!(told(&[3, 0, 7], [1, 2, 3]), (2, 0));
+        assert_eq!(told(&[0, 10], [1, 2, 3]), (0, 0));
+        assert_eq!(told(&[5], [1, 2, 3]), (0, 1));
+        assert_eq!(told(&[10], [1, 2, 3]), (0, 0));
+        assert_eq!(told(&[5], [1, 2, 2]), (0, 0));
+    }
+
+    #[test]
     fn seniors_before_juniors_are_seen() {
         let pool = |charges: &[Sum]| Pool {
             ranks: ranks([1, 2, 2]),
             portions: by_member(&[4, 0, 5]),
             charges: by_member(charges),
+            alone: false,
         };
         assert_eq!(pool(&[0, 0, 4]).out_of_order(), None);
         assert_eq!(pool(&[3, 0, 5]).out_of_order(), None);
@@ -241,6 +287,7 @@ mod tests {
         let charged = Charged {
             pools: vec![pool(&[0, 0, 1]), pool(&[1, 0, 0])],
             tie: by_member(&[0, 0, 0]),
+            just_sums: 0,
             joined: None,
         };
         assert!(charged

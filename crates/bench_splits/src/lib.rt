@@ -4,8 +4,8 @@
 
 pub mod old;
 
-ghost use Rattle.std.specs.Prelude.{◌≡◌, ◌≤◌};
-ghost use Rattle.lists.specs.Limits.{amount_limit, sum_limit};
+ghost use Rattle.std.specs.Prelude.{◌≡◌, ◌<◌, ◌≤◌};
+ghost use Rattle.lists.specs.Limits.{member_limit, amount_limit, sum_limit};
 ghost use Rattle.lists.specs.Sums.{AtMost};
 
 use bench_defaults::fold::fold;
@@ -32,11 +32,12 @@ pub enum Case {
 // The place of the weight that is alone.
 const ALONE: usize = 40;
 
-// An odd amount, and 0 beside the weight that is alone.
+// An amount that is no round one, and 0 beside the weight that is alone.
 fn weight(case: Case, place: usize) -> u64
+    requires { place < member_limit }
     ensures { result ≤ amount_limit }
 {
-    let amount = 1_000_000 + 37 * (place as u64 % 64);
+    let amount = 1_000_000 + 37 * place as u64;
     match case {
         Case::Alone => if place == ALONE { amount } else { 0 },
         Case::Whole | Case::Ordinary => amount,
@@ -54,7 +55,8 @@ fn weights(case: Case) -> [u64; 64]
     weights
 }
 
-// The whole, or else half of it and a little more from turn to turn, so that no turn is like the one before.
+// The whole, or else half of it and a little more from turn to turn, so that no turn is like the one before. (Those of the whole are alike: a sum that
+// is all the weights can be no other.)
 fn sum(case: Case, whole: u64, turn: u64) -> u64
     requires { whole ≤ sum_limit }
     ensures { result ≤ sum_limit }

@@ -3,7 +3,7 @@
 #![tactic(auto)]
 
 ghost use Rattle.std.specs.Prelude.{◌≡◌, ◌≤◌, ◌<◌, length};
-ghost use Rattle.lists.specs.Limits.{member_limit, pool_limit, amount_limit, allocation_limit};
+ghost use Rattle.lists.specs.Limits.{amount_limit, allocation_limit};
 ghost use Rattle.lists.specs.Sums.{AtMost, total, keep};
 ghost use Rattle.split.specs.Split.{share_of};
 ghost use Rattle.ranks.specs.Ranks.{charges_of};
@@ -77,7 +77,7 @@ fn charge_others(
     charge_by_rank(sum, contribution, &read, charges)
 }
 
-// A pool's turn of the split of one contribution. Where nothing is left of it, or just the sums of the pools, nothing is divided.
+// A pool's turn of the split of one contribution. Where nothing is left of it, or just the sums of this pool and those to come, nothing is divided.
 fn portion(left: u32, sum: u64, rest: u64) -> u32
     requires { (left ≤ amount_limit) × (sum < rest) × (rest ≤ allocation_limit) }
     ensures { result ≡ share_of left sum rest }

@@ -16,7 +16,7 @@ use Rattle.lists.proofs.Places.{by_order, raised}
 use Rattle.lists.proofs.Sums.{zeros, total_zeros, get_or_zeros, total-plus, plus_assoc, plus_none, none-plus, length-keep, keep-le, cond-le, keep-map_step}
 use Rattle.split.specs.Parts.{Splits}
 use Rattle.split.specs.Split.{split_of}
-use Rattle.split.proofs.Laws.{length-split, total_within, total_of-none, split-le, split-within, split_whole, exceeds-none, splits_as}
+use Rattle.split.proofs.Laws.{total_within, total_of-none, split-le, split-within, split_whole, exceeds-none, splits_as}
 use Rattle.ranks.specs.Ranks.{at_rank, rank_gives, charges_from, charges_of}
 use Rattle.ranks.specs.Parts.{Weighed, Totals, Passed, Marginal, Shared, above_rank}
 use Rattle.ranks.specs.declared.Margin.{Margin}

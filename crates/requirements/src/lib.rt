@@ -82,9 +82,8 @@ fn unshared(part: u64, whole: u64) -> bool
     0 < part && whole == 0
 }
 
-// A part of a quantum by its column. Nothing is divided where there is nothing to share. Bounds are clauses, here and in the layers: each sum has its own,
+// A part of a quantum by its column. Bounds are clauses, here and in the layers: each sum has its own,
 // and a type made for one would be taken apart again by what splits, adds or lowers it.
-#[tactic(auto, using(split::proofs::Laws::none_shared))]
 fn part(sum: u64, whole: u64, weights: &[u32; 64]) -> [u64; 64]
     requires moderate { sum ≤ allocation_limit }
     requires whole_is { whole ≡ total weights.now }
@@ -93,9 +92,6 @@ fn part(sum: u64, whole: u64, weights: &[u32; 64]) -> [u64; 64]
     ensures within { AtMost result sum }
 {
     let mut shares = [0u64; 64];
-    if sum == 0 {
-        return shares;
-    }
     split::split(sum, whole, &wide(weights), &mut shares);
     shares
 }

@@ -7,9 +7,8 @@ use native.Mathlib.Omega.{arith}
 use lib.ListN.{length, replicate}
 use Rattle.lists.specs.Limits.{member_limit}
 use Rattle.lists.specs.Sums.{total}
-use Rattle.lists.proofs.Sums.{get_or_zeros}
 use Rattle.split.specs.Split.{split_of, exceeds}
-use Rattle.split.proofs.Laws.{total_within, exceeds-none, none_shared}
+use Rattle.split.proofs.Laws.{total_within, none_shared}
 use Rattle.rooms.specs.Rooms.{gives}
 use Rattle.rooms.specs.Parts.{Shares}
 
@@ -38,12 +37,8 @@ shared_so found rooms cs left whole g l over e w s q o =
 pub shared-none : (rooms : List ℕ) (left : ℕ) → length rooms ≡ member_limit → left ≡ 0 → Shares rooms left (replicate member_limit 0) 0 0 false
 shared-none rooms left h e =
     let g : gives left (total rooms) ≡ 0 = omega arith in
-    record {
-      total_is = sym g;
-      rest_is = omega arith;
-      shares_are = (none_shared (gives left (total rooms)) rooms g h).0;
-      over_is = sym (exceeds-none (replicate member_limit 0) rooms (λ k. omega (arith, get_or_zeros member_limit k)));
-    }
+    let z = none_shared (gives left (total rooms)) rooms g h in
+    record { total_is = sym g; rest_is = omega arith; shares_are = z.0; over_is = z.1 ∙ ap (λ (xs : List ℕ). exceeds xs rooms) (sym z.0) }
 
 -- the shares add to what is given
 pub whole_shared : (rooms : List ℕ) (left : ℕ) (cs : List ℕ) (t rest : ℕ) (over : Bool) → Shares rooms left cs t rest over → t ≡ total cs

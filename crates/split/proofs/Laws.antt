@@ -9,6 +9,7 @@ use native.Mathlib.Numerals.{add-one}
 use native.Mathlib.Omega.{arith}
 use borrow.Author.Tests.{lt-ltb, le-ltb}
 use Rattle.std.proofs.lemmas.Bool.{or_left, or_right}
+use Rattle.std.proofs.lemmas.List.{at_drop_more}
 use lib.Dec.{ltb}
 use lib.ListN.{length, get_or, take, drop, set, replicate, length-drop}
 use lib.Seq.{drop-cons}
@@ -203,7 +204,7 @@ exceeds-some (s ∷ shares) (w ∷ weights) e h =
     (λ p. or_left (ltb w s) (exceeds shares weights) (lt-ltb w s (omega arith)))
     (eq-zero-or-pos (s - w))
 
--- so one is above its weight where the sum is above all the weights, and else none is
+-- so, where there is a weight, one is above its own where the sum is above them all, and else none is
 pub exceeds_is : (l : ℕ) (ws : List ℕ) → 0 < total ws → exceeds (split_of l ws) ws ≡ ltb (total ws) l
 exceeds_is l ws p =
     by_order
@@ -219,8 +220,8 @@ exceeds_is l ws p =
 -- where nothing is divided ------------------------------------------------------------
 
 -- a sum of all the weights gives each its weight, and nobody more
-pub whole_shared : (l : ℕ) (ws : List ℕ) → l ≡ total ws → (ws ≡ split_of l ws) × (false ≡ exceeds (split_of l ws) ws)
-whole_shared l ws e =
+pub weights_shared : (l : ℕ) (ws : List ℕ) → l ≡ total ws → (ws ≡ split_of l ws) × (false ≡ exceeds (split_of l ws) ws)
+weights_shared l ws e =
     rw (e, split_whole ws) (refl, sym (exceeds-none ws ws (λ k. omega arith)))
 
 -- a sum of 0, or weights of 0 alone, give everybody 0
@@ -248,7 +249,11 @@ pub split_turn : (l : ℕ) (ws out r : List ℕ) (k t s : ℕ) → k < length ws
     → take (k + 1) (set out k s) ++ split_of (l - s) (drop (k + 1) ws) ≡ r
 split_turn l ws out r k t s hw ho f e h = fill_turn out r _ _ k s ho (split_step l ws k s hw (rw f at e)) h
 
--- with one weight alone left above 0 it takes what is left, and those behind it have nothing
+-- a share at a place fits in what is left
+pub share-le_at : (l : ℕ) (ws : List ℕ) (k t : ℕ) → k < length ws → t ≡ total (drop k ws) → share_of l (get_or ws k 0) t ≤ l
+share-le_at l ws k t h e = share-le_left l (get_or ws k 0) t (omega (arith, at_drop_more total ws k 0 h))
+
+-- with one weight alone left above 0, `split_alone` of what is left: it takes that, and those behind it have nothing
 pub split_last : (l : ℕ) (ws : List ℕ) (k n : ℕ) → k < length ws → n ≡ length ws - (k + 1) → 0 < get_or ws k 0 → get_or ws k 0 ≡ total (drop k ws)
     → split_of l (drop k ws) ≡ l ∷ replicate n 0
 split_last l ws k n h e p t =

@@ -1,4 +1,4 @@
--- Document 01, "Drill examples": the four splits marked *.
+-- Document 01, "Drill examples": the four splits marked *. And document 02, request 4: two more whose shares are plain.
 use Rattle.std.specs.Prelude.{◌≡◌, refl, [], ◌∷◌}
 use Rattle.split.specs.Split.{share_of, split_of}
 
@@ -17,3 +17,11 @@ split_of_10 = refl
 pub split_over-none : split_of 5 (0 ∷ 5 ∷ []) ≡ 0 ∷ 5 ∷ []
 unfolding share_of split_of
 split_over-none = refl
+
+pub split_over-one : split_of 5 (0 ∷ 9 ∷ 0 ∷ []) ≡ 0 ∷ 5 ∷ 0 ∷ []
+unfolding share_of split_of
+split_over-one = refl
+
+pub split_of-none : split_of 0 (3 ∷ 0 ∷ 4 ∷ []) ≡ 0 ∷ 0 ∷ 0 ∷ []
+unfolding share_of split_of
+split_of-none = refl

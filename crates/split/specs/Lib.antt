@@ -1,4 +1,4 @@
--- The definition that the contract of `split` cites, and document 01's examples of it.
+-- The definition that the contract of `split` cites, and examples of it from document 01 and for request 4.
 pub mod Split
 pub mod Parts
 pub mod Examples

@@ -2,12 +2,12 @@
 // divided: document 02, request 4, "Spare the division".
 #![tactic(auto)]
 
-ghost use Rattle.std.specs.Prelude.{◌≡◌, ◌*◌, ◌≤◌, ◌<◌};
+ghost use Rattle.std.specs.Prelude.{◌≡◌, ◌≢◌, ◌*◌, ◌≤◌, ◌<◌};
 ghost use Rattle.split.specs.Split.{share_of, split_of, exceeds};
 ghost use Rattle.split.specs.Parts.{Splits, product_limit};
 
-// One weight's share of what is left of the sum: a turn of the split. A weight of 0 takes nothing, and costs no division. What is plain is not asked
-// here: something is left to share, and other weights are left beside this one.
+// One weight's share of what is left of the sum: a turn of the split. A weight of 0 takes nothing, and costs no division. Nobody asks for a share of
+// nothing, or for that of the only weight left.
 #[tactic(auto, unfolding(crate::specs::Split::share_of))]
 pub fn share(left: u64, weight: u64, rest: u64) -> u64
     requires fits { weight * left ≤ product_limit }
@@ -20,11 +20,11 @@ pub fn share(left: u64, weight: u64, rest: u64) -> u64
     weight * left / rest
 }
 
-// The shares one by one, until one weight alone is left above zero: it takes what is left, and those behind it nothing. A turn tells that by one
-// comparison, so that no pass looks for it. Before that weight something is always left.
+// The shares of a sum that is neither nothing nor the whole, one by one, until one weight alone is left above zero: it takes what is left, and those
+// behind it nothing. A turn tells that by one comparison, so that no pass looks for it. Before that weight something is always left.
 fn share_each(sum: u64, whole: u64, weights: &[u64], shares: &mut [u64])
     requires asked { Splits sum whole weights.now shares.old }
-    requires divisible { (0 < sum) × (0 < whole) }
+    requires divisible { (0 < sum) × (0 < whole) × (sum ≢ whole) }
     ensures { shares.new ≡ split_of sum weights.now }
 {
     let mut left = sum;
@@ -45,7 +45,7 @@ fn share_each(sum: u64, whole: u64, weights: &[u64], shares: &mut [u64])
 
 // `sum` shared over `weights`, whose total is `whole`: callers have it, so it is not added up again. The answer is whether a share comes out
 // above its weight: a flag, and no Result, for the shares are promised either way, and fund sizing leaves it unread.
-#[tactic(auto, using(crate::proofs::Laws::whole_shared, crate::proofs::Laws::nothing_shared))]
+#[tactic(auto, using(crate::proofs::Laws::weights_shared, crate::proofs::Laws::nothing_shared))]
 pub fn split(sum: u64, whole: u64, weights: &[u64], shares: &mut [u64]) -> bool
     requires { Splits sum whole weights.now shares.old }
     ensures shares_after { shares.new ≡ split_of sum weights.now }
@@ -62,6 +62,6 @@ pub fn split(sum: u64, whole: u64, weights: &[u64], shares: &mut [u64]) -> bool
         return false;
     }
     share_each(sum, whole, weights, shares);
-    // Some share is above its weight just where the sum is above all the weights.
+    // Where there is a weight, some share is above its own just where the sum is above them all.
     whole < sum
 }

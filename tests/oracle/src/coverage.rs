@@ -84,7 +84,10 @@ impl Coverage {
             ("a fallen call where no loss is left", t.joined[2]),
             ("a contribution that is just the pools' sums", t.just_sums),
             ("a rank that gives a part by one member alone", t.alone),
-            ("a default that calls all there is", t.all_called),
+            (
+                "a default that calls all there is, and is short",
+                t.all_called,
+            ),
             ("refusal 13 for a later pool", t.later_loss),
             ("refusal 15 for a later pool", t.later_rank),
             ("refusal 21", self.refusals[21]),
@@ -144,7 +147,7 @@ impl Coverage {
             t.joined[0], t.joined[1], t.joined[2]
         );
         println!(
-            "contributions that were just the sums of several pools: {}; ranks that gave a part by one member alone: {}; defaults that called all there was: {}",
+            "contributions that were just the sums of several pools: {}; ranks that gave a part by one member alone: {}; defaults that called all there was, and were short: {}",
             t.just_sums, t.alone, t.all_called
         );
         println!(

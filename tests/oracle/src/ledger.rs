@@ -41,7 +41,7 @@ pub struct Tally {
     pub just_sums: u64,
     /// Ranks that in accepted defaults give a part, and have it of one member alone.
     pub alone: u64,
-    /// Accepted defaults that call all that the caps leave.
+    /// Accepted defaults that call all that the caps leave, and are still short.
     pub all_called: u64,
     /// Defaults refused with 13 for a later pool alone.
     pub later_loss: u64,
@@ -767,6 +767,23 @@ mod tests {
         assert_eq!(tally.pools, [0, 4, 0, 0, 2]);
         assert_eq!(tally.pools_accepted, [0; 5]);
         assert_eq!((tally.later_loss, tally.later_rank), (1, 1));
+    }
+
+    /// Member 1's default calls on the others, 20,000 in all; of them member 4 has no cap.
+    #[test]
+    fn defaults_that_call_all_there_is_are_tallied() {
+        let all_called = |loss: u64| {
+            let case = DrillCase {
+                calls: format!("default 1 {loss} 2:1 3:1 4:1\nregister\n").into(),
+                ..example()
+            };
+            count(&case, &printed(&case)).unwrap().all_called
+        };
+        let to_layer_6 = 50_000 + 20_000 + 22_000 + 60_000;
+        assert_eq!(all_called(to_layer_6), 0);
+        assert_eq!(all_called(to_layer_6 + 19_999), 0);
+        assert_eq!(all_called(to_layer_6 + 20_000), 0);
+        assert_eq!(all_called(to_layer_6 + 20_001), 1);
     }
 
     #[test]

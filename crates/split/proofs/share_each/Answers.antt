@@ -7,7 +7,7 @@ use Rattle.std.proofs.lemmas.List.{length-set, length-drop, take_rest, at_drop_m
 use Rattle.lists.specs.Sums.{total}
 use Rattle.lists.proofs.Fill.{fill_rest}
 use Rattle.split.specs.Split.{split_of}
-use Rattle.split.proofs.Laws.{split_turn, split_last, share-le_left, share-lt_left}
+use Rattle.split.proofs.Laws.{split_turn, split_last, share-le_at, share-lt_left}
 use Rattle.split.proofs.share_each.Goals as goal
 
 -- the only weight left takes what is left
@@ -25,8 +25,7 @@ returns-then-weight-rest c =
 pub overflow_sub-left : goal.overflow_sub-left
 overflow_sub-left c =
     let l = c.loop-i in
-    let ws = c.args.weights.now in
-    omega (arith, c.share-part.ensures, share-le_left l.left (get_or ws l.i 0) l.rest (omega (arith, at_drop_more total ws l.i 0 (omega arith))))
+    omega (arith, c.share-part.ensures, share-le_at l.left c.args.weights.now l.i l.rest (omega arith) l.invariant.2)
 
 pub loop-i-preserved : goal.loop-i-preserved
 loop-i-preserved c =

@@ -1,3 +1,5 @@
+-- `split::share_each` meets its contract. The loop's invariant: the shares so far, with the split of what is left over the weights that are left
+-- behind them, are the split of the whole; something is left of both.
 use Prim.Native.Nat.{◌≤◌, ◌<◌}
 use mathlib.Core.Path.{◌≡◌}
 use mathlib.Core.List.{◌++◌}

@@ -1,9 +1,10 @@
+-- `split::split` meets its contract.
 use native.Mathlib.Omega.{arith}
-use Rattle.split.proofs.Laws.{whole_shared, exceeds_is}
+use Rattle.split.proofs.Laws.{weights_shared, exceeds_is}
 use Rattle.split.proofs.split.Goals as goal
 
 pub returns-then-sum-whole-clause-shares_after : goal.returns-then-sum-whole-clause-shares_after
-returns-then-sum-whole-clause-shares_after c = rw c.copy_from_slice.ensures.after (whole_shared c.args.sum c.args.weights.now (omega (arith, c.if-sum-whole.true))).0
+returns-then-sum-whole-clause-shares_after c = rw c.copy_from_slice.ensures.after (weights_shared c.args.sum c.args.weights.now (omega (arith, c.if-sum-whole.true))).0
 
 pub returns-clause-over_is : goal.returns-clause-over_is
 returns-clause-over_is c = rw (exceeds_is c.args.sum c.args.weights.now (omega (arith, c.if-whole-eq0.false)), c.requires.whole_is)

@@ -1,18 +1,17 @@
 use mathlib.Core.Path.{refl}
 use native.Mathlib.Omega.{arith}
-use lib.ListN.{get_or, length-set}
+use lib.ListN.{length-set}
 use Rattle.std.proofs.lemmas.List.{at_drop_more}
 use Rattle.lists.specs.Sums.{total}
 use Rattle.lists.proofs.Checks.{any_turn, any_done}
-use Rattle.split.proofs.Laws.{split_turn, share-le_left}
+use Rattle.split.proofs.Laws.{split_turn, share-le_at}
 use Rattle.bench_splits.proofs.Turns.{split_done, exceeds_turn, exceeds-end}
 use Rattle.bench_splits.proofs.old.split.Goals as goal
 
 pub overflow_sub-left : goal.overflow_sub-left
 overflow_sub-left c =
     let l = c.loop-i in
-    let ws = c.args.weights.now in
-    omega (arith, c.share-part.ensures, share-le_left l.left (get_or ws l.i 0) l.rest (omega (arith, at_drop_more total ws l.i 0 (omega arith))))
+    omega (arith, c.share-part.ensures, share-le_at l.left c.args.weights.now l.i l.rest (omega arith) l.invariant.3)
 
 pub loop-i-preserved : goal.loop-i-preserved
 loop-i-preserved c =

@@ -78,8 +78,8 @@ fn once(
     register.declare(DEFAULTER, risen, ranks, slip)
 }
 
-// A loop of its own here, in pages and in sizings, and no function over a closure for the three: a closure clears room for its answer each turn (119 of
-// a default's 3,575 instructions).
+// A loop of its own here, in `bench_splits`, in pages and in sizings, and no function over a closure for the four: a closure clears room for its answer
+// each turn (119 of a default's 3,575 instructions).
 fn repeat(register: Register, pools: Pools, ranks: &[u8], turns: u64) -> u64
     ensures { (turns ≡ 0) → (result ≡ 0) }
 {

@@ -45,7 +45,7 @@ fn main(rt: HostRuntime) {
         }
         None => {
             let _ = eprintln!(rt;
-                "usage: bench_engine ranked|tied|calls|pools|page REPS\n       bench_engine [old_]whole|alone|ordinary REPS\n       bench_engine sizing REPS STRESS SHARES"
+                "usage: bench_engine ranked|tied|calls|pools|page REPS\n       bench_engine [old_](whole|alone|ordinary) REPS\n       bench_engine sizing REPS STRESS SHARES"
             );
         }
     }

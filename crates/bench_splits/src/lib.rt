@@ -1,4 +1,4 @@
-// Repeated splits of a sum over 64 weights, by the engine's split and by the old one, which divided wherever a weight was above zero. Each case answers
+// Repeated splits of a sum over 64 weights, by the engine's split and by the old one, which divides wherever a weight is above zero. Each case answers
 // a checksum of its shares, which tests/bench_checksums.test holds to the implementation in Rust; without a turn it is 0.
 #![tactic(auto)]
 
@@ -32,7 +32,7 @@ pub enum Case {
 // The place of the weight that is alone.
 const ALONE: usize = 40;
 
-// An amount that is no round one, and 0 beside the weight that is alone.
+// Amounts that all differ, and 0 beside the weight that is alone.
 fn weight(case: Case, place: usize) -> u64
     requires { place < member_limit }
     ensures { result ≤ amount_limit }

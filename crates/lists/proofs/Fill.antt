@@ -1,13 +1,12 @@
 -- A loop that fills a list from the front, one `set` a turn: `take k out ++ rest ≡ r` says that what is filled, with what is still to
 -- come behind it, is the whole result. A function that goes by cons on the lists it reads is proved with these laws.
-use Prim.Native.Nat.{ℕ, ◌+◌, ◌-◌, ◌≤◌, ◌<◌}
+use Prim.Native.Nat.{ℕ, ◌+◌, ◌≤◌, ◌<◌}
 use mathlib.Core.Path.{◌≡◌, ap}
 use mathlib.Core.Bool.{Bool, cond}
 use mathlib.Core.List.{List, [], ◌∷◌, ◌++◌, append_assoc, append-nil, map}
 use native.Mathlib.Numerals.{add-one}
 use native.Mathlib.Omega.{arith}
-use borrow.Rule.Slice.PartMut.{put_mid}
-use lib.ListN.{length, get_or, take, drop, set, drop_of_length-le, length-drop, length-set}
+use lib.ListN.{length, get_or, take, drop, set, drop_of_length-le}
 use Rattle.lists.specs.Sums.{plus, keep}
 use Rattle.lists.proofs.Sums.{keep-map_step}
 use lib.Seq.{take-suc-set, take_all, drop-cons, drop-set-lt}
@@ -21,13 +20,6 @@ fill_turn out r rest more k s h e f =
 -- the end
 pub fill_done : (out r rest : List ℕ) (k : ℕ) → length out ≤ k → rest ≡ [] → take k out ++ rest ≡ r → out ≡ r
 fill_done out r rest k h e f = simp (take_all k out h, e, append-nil) at f
-
--- and where all that is still to come is put there at once, behind one more number
-pub fill_rest : (out r rest more : List ℕ) (k n s : ℕ) → k < length out → n ≡ length out - (k + 1) → rest ≡ s ∷ more → take k out ++ rest ≡ r
-    → put_mid (k + 1) n (set out k s) more ≡ r
-fill_rest out r rest more k n s h e f g =
-    let z : drop n (drop (k + 1) (set out k s)) ≡ [] = drop_of_length-le (drop (k + 1) (set out k s)) {i = n} (omega (arith, length-drop (k + 1) (set out k s), length-set out k s)) in
-    rw (z, append-nil) (fill_turn out r rest more k s h f g)
 
 -- the marked numbers added to a list in place ----------------------------------------
 

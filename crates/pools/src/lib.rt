@@ -77,9 +77,10 @@ fn charge_others(
     charge_by_rank(sum, contribution, &read, charges)
 }
 
-// A pool's turn of the split of one contribution. Where nothing is left of it, or just the sums of this pool and those to come, nothing is divided.
+// A pool's turn of the split of one contribution. Where nothing is left of it, or just as much as the sums of this pool and those to come, nothing
+// is divided.
 fn portion(left: u32, sum: u64, rest: u64) -> u32
-    requires { (left ≤ amount_limit) × (sum < rest) × (rest ≤ allocation_limit) }
+    requires { (left ≤ amount_limit) × (0 < sum) × (sum < rest) × (rest ≤ allocation_limit) }
     ensures { result ≡ share_of left sum rest }
 {
     if left == 0 {

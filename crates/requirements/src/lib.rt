@@ -82,8 +82,8 @@ fn unshared(part: u64, whole: u64) -> bool
     0 < part && whole == 0
 }
 
-// A part of a quantum by its column. Bounds are clauses, here and in the layers: each sum has its own,
-// and a type made for one would be taken apart again by what splits, adds or lowers it.
+// A part of a quantum by its column. Bounds are clauses, here and in the layers: each sum has its own, and a type made for one would be taken apart
+// again by what splits, adds or lowers it.
 fn part(sum: u64, whole: u64, weights: &[u32; 64]) -> [u64; 64]
     requires moderate { sum ≤ allocation_limit }
     requires whole_is { whole ≡ total weights.now }

@@ -9,10 +9,10 @@ use native.Mathlib.Numerals.{add-one}
 use native.Mathlib.Omega.{arith}
 use borrow.Author.Tests.{lt-ltb, le-ltb}
 use Rattle.std.proofs.lemmas.Bool.{or_left, or_right}
-use Rattle.std.proofs.lemmas.List.{at_drop_more}
+use Rattle.std.proofs.lemmas.List.{at_drop_more, set-get_or, take-append-drop}
 use lib.Dec.{ltb}
 use lib.ListN.{length, get_or, take, drop, set, replicate, length-drop}
-use lib.Seq.{drop-cons}
+use lib.Seq.{drop-cons, drop-set-lt}
 use Rattle.lists.specs.Limits.{member_limit, amount_limit, allocation_limit}
 use Rattle.lists.specs.Sums.{total}
 use Rattle.lists.proofs.Fill.{fill_turn}
@@ -253,14 +253,32 @@ split_turn l ws out r k t s hw ho f e h = fill_turn out r _ _ k s ho (split_step
 pub share-le_at : (l : ℕ) (ws : List ℕ) (k t : ℕ) → k < length ws → t ≡ total (drop k ws) → share_of l (get_or ws k 0) t ≤ l
 share-le_at l ws k t h e = share-le_left l (get_or ws k 0) t (omega (arith, at_drop_more total ws k 0 h))
 
+-- a weight of 0 is passed, where its share is 0 already
+pub pass_turn : (l : ℕ) (ws out r : List ℕ) (k t : ℕ) → k < length ws → k < length out → t ≡ total (drop k ws) → get_or ws k 0 ≡ 0 → get_or out k 0 ≡ 0
+    → take k out ++ split_of l (drop k ws) ≡ r
+    → take (k + 1) out ++ split_of l (drop (k + 1) ws) ≡ r
+pass_turn l ws out r k t hw ho f z o h =
+    let same : set out k 0 ≡ out = ap (set out k) (sym o) ∙ set-get_or out k 0 in
+    rw (same, sub-zero) at (split_turn l ws out r k t 0 hw ho f (sym (share-none l (get_or ws k 0) t z)) h)
+
 -- with one weight alone left above 0, `split_alone` of what is left: it takes that, and those behind it have nothing
-pub split_last : (l : ℕ) (ws : List ℕ) (k n : ℕ) → k < length ws → n ≡ length ws - (k + 1) → 0 < get_or ws k 0 → get_or ws k 0 ≡ total (drop k ws)
+split_last : (l : ℕ) (ws : List ℕ) (k n : ℕ) → k < length ws → n ≡ length ws - (k + 1) → 0 < get_or ws k 0 → get_or ws k 0 ≡ total (drop k ws)
     → split_of l (drop k ws) ≡ l ∷ replicate n 0
 split_last l ws k n h e p t =
     let d : drop k ws ≡ get_or ws k 0 ∷ drop (k + 1) ws = rw add-one (drop-cons ws k 0 h) in
     let m : length (drop (k + 1) ws) ≡ n = omega (arith, length-drop (k + 1) ws) in
     let z : total (drop (k + 1) ws) ≡ 0 = omega (arith, ap total d) in
     rw (d, split_alone l (get_or ws k 0 ∷ drop (k + 1) ws) 0 p (omega arith), zeros n (drop (k + 1) ws) m z)
+
+-- so the list filled up to it, with what is left put there and shares of 0 behind it, is the split
+pub last_turn : (l : ℕ) (ws out r : List ℕ) (k : ℕ) → k < length ws → length out ≡ length ws → 0 < get_or ws k 0 → get_or ws k 0 ≡ total (drop k ws)
+    → total (drop (k + 1) out) ≡ 0 → take k out ++ split_of l (drop k ws) ≡ r
+    → set out k l ≡ r
+last_turn l ws out r k h e p t z f =
+    let n : ℕ = length ws - (k + 1) in
+    let behind : drop (k + 1) (set out k l) ≡ replicate n 0 = drop-set-lt (k + 1) out k l (omega arith) ∙ sym (zeros n (drop (k + 1) out) (omega (arith, length-drop (k + 1) out)) z) in
+    sym (take-append-drop (k + 1) (set out k l)) ∙ ap (λ (xs : List ℕ). take (k + 1) (set out k l) ++ xs) behind
+    ∙ fill_turn out r _ _ k l (omega arith) (split_last l ws k n h refl p t) f
 
 -- what a split asks -----------------------------------------------------------
 

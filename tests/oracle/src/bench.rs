@@ -118,7 +118,7 @@ fn repeat_default(case: &DefaultCase, repetitions: u64) -> u64 {
 /// The place of the weight that is alone.
 const ALONE: usize = 40;
 
-/// Odd amounts, in `alone` all but one of them zero.
+/// Amounts that all differ, in `alone` all but one of them zero.
 fn weights(case: &str) -> [u64; MEMBERS] {
     std::array::from_fn(|place| match case {
         "alone" if place != ALONE => 0,

@@ -583,7 +583,7 @@ impl Account {
 mod tests {
     use super::*;
     use crate::engine::PAGE_BYTES;
-    use crate::generate::{drill, example_register};
+    use crate::generate::{drill, example_register, member_record};
     use crate::text::run_drill;
     use std::ops::Range;
 
@@ -784,6 +784,13 @@ mod tests {
         assert_eq!(all_called(to_layer_6 + 19_999), 0);
         assert_eq!(all_called(to_layer_6 + 20_000), 0);
         assert_eq!(all_called(to_layer_6 + 20_001), 1);
+        // short, where nobody is left to be called
+        let case = DrillCase {
+            sheet: member_record(1, [0, 10_000, 0]).to_vec(),
+            own: 0,
+            calls: "default 1 10001\nregister\n".into(),
+        };
+        assert_eq!(count(&case, &printed(&case)).unwrap().all_called, 0);
     }
 
     #[test]

@@ -17,9 +17,8 @@ impl Split {
     /// most 26,000,000,000 and a contribution at most 400,000,000: the product fits.
     #[inline]
     pub fn share(&mut self, weight: u64) -> u64 {
-        if weight == 0 || self.sum == 0 {
-            self.weights -= weight;
-            return 0; // nothing to share with, or nothing left to share
+        if weight == 0 {
+            return 0;
         }
         let share = if self.sum == self.weights {
             weight // the whole total is taken: weight * sum / sum

@@ -271,6 +271,12 @@ mod tests {
         assert_eq!(told(&[5], [1, 2, 3]), (0, 1));
         assert_eq!(told(&[10], [1, 2, 3]), (0, 0));
         assert_eq!(told(&[5], [1, 2, 2]), (0, 0));
+        // of two members of one rank, one has something
+        let found = Found {
+            contributions: by_member(&[10, 0, 10]),
+            ..found
+        };
+        assert_eq!(charge(&found, &[5], &ranks([1, 2, 2])).alone(), 1);
     }
 
     #[test]

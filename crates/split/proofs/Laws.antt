@@ -158,18 +158,14 @@ split_whole (w ∷ ws) =
 pub total_of-none : (ws : List ℕ) → total (split_of 0 ws) ≡ 0
 total_of-none ws = total_within 0 ws zero-le
 
-same_zeros : (xs ys : List ℕ) → length xs ≡ length ys → total xs ≡ 0 → total ys ≡ 0 → xs ≡ ys
-same_zeros xs ys e x y = sym (zeros (length xs) xs refl x) ∙ zeros (length xs) ys (sym e) y
-
 -- where one weight alone is above 0, it takes the sum, and the others have the 0 that they are
 pub split_alone : (l : ℕ) (ws : List ℕ) (k : ℕ) → 0 < get_or ws k 0 → total ws ≡ get_or ws k 0 → split_of l ws ≡ set ws k l
 unfolding split_of
 split_alone l [] k p e = absurd (omega arith)
 split_alone l (w ∷ ws) zero p e =
-    let z : total ws ≡ 0 = omega arith in
     let n : w + total ws ≡ w = omega arith in
-    let s : (m : ℕ) → split_of m ws ≡ ws = λ m. same_zeros (split_of m ws) ws (length-split m ws) (total-none m ws z) z in
-    rw (n, share-last l w p, s (l - l))
+    let z : l - l ≡ total ws = omega arith in
+    rw (n, share-last l w p, z, split_whole ws)
 split_alone l (w ∷ ws) (suc k) p e =
     let z : w ≡ 0 = omega (arith, get_or-le-total ws k) in
     rw (z, share-none l 0 (0 + total ws) refl, sub-zero, split_alone l ws k p (omega arith))

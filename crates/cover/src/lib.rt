@@ -1,29 +1,33 @@
-// The cover C and the weak losses W of a stress sheet: document 01, "Stress sheet and sizing". One pass, with what it needs of the open block
-// and of the worst block so far.
+// The cover C and the weak losses W of a stress sheet: document 01, "Stress sheet and sizing", and document 02, request 5. One pass, with what it needs
+// of the open block and of the worst block so far.
 #![tactic(auto)]
 
-ghost use Rattle.std.specs.Prelude.{◌≡◌, cond, List, [], ◌∷◌, ◌≤◌};
-ghost use Rattle.lists.specs.Limits.{amount_limit};
+ghost use Rattle.std.specs.Prelude.{◌≡◌, false, cond, List, ◌∷◌, ◌≤◌};
+ghost use Rattle.lists.specs.Limits.{amount_limit, stress_limit, group_limit};
+ghost use Rattle.lists.specs.Sums.{AtMost};
 ghost use Rattle.refusal.specs.Refusal.{answered};
 ghost use Rattle.sheets.specs.Bytes.{nonzero};
+ghost use Rattle.sheets.specs.Sheet.{missized};
 ghost use Rattle.stress.specs.Stress.{stress_refusal};
 ghost use Rattle.cover.specs.Cover.{StressLoss, covered_of};
-ghost use Rattle.cover.specs.Parts.{block_of, worse_of, Slight};
+ghost use Rattle.cover.specs.Parts.{Kept, opened, placed, grown, cover_in, worse_of, Slight};
 
 use refusal::{Refusal, located};
 use std::marker::Model;
-use stress::Loss;
 use stress::losses::{read_loss, same_block};
 
-// The two highest losses of a block, and its flagged losses added.
+// What is kept of a block: the two highest sums, and the flagged losses added. Sums are counted from a floor, which is 0 in the first block and then the
+// highest that the block before came to. What earlier blocks left in the list of the groups' sums is no higher, and counts as nothing: so the list, which lies
+// beside, is not cleared for each block.
 #[derive(Clone, Copy)]
 struct Block {
-    top: u32,
-    second: u32,
+    floor: u64,
+    top: u64,
+    second: u64,
     flagged: u64,
 }
 
-// The cover sum of a block, and its flagged losses added. No block has more than two highest losses, and five flagged ones.
+// The cover sum of a block, and its flagged losses added. No block has more than 64 losses, and five flagged ones.
 #[derive(Clone, Copy)]
 pub struct Covered {
     pub cover: u64,
@@ -42,13 +46,14 @@ impl Model for Covered {
     ghost invariant = { λ c. Bounded c.cover c.weak };
 }
 
-#[tactic(auto, using(crate::proofs::Blocks::block_of_none))]
-fn no_block() -> Block
-    ensures { result ≡ block_of [] }
+// A block of no records.
+fn opened(floor: u64) -> Block
+    ensures { result ≡ opened floor }
 {
     Block {
-        top: 0,
-        second: 0,
+        floor,
+        top: floor,
+        second: floor,
         flagged: 0,
     }
 }
@@ -59,36 +64,65 @@ fn flagged_loss(amount: u32, weak: bool) -> u64
     if weak { u64::from(amount) } else { 0 }
 }
 
-// A record joins the block. `Slight` is asked here and at `worse`, and is no invariant of `Block`: that no sixth flag joins is known of the
-// record before, and not of a block.
-#[tactic(auto, using(crate::proofs::Blocks::joined_above, crate::proofs::Blocks::joined_below))]
-fn joined(block: Block, amount: u32, weak: bool) -> Block
-    requires { Slight block × (amount ≤ amount_limit) }
-    ensures { (xs : List StressLoss) (x : StressLoss) → block ≡ block_of xs → x.loss ≡ amount → nonzero x.weak ≡ weak
-        → result ≡ block_of (x ∷ xs) }
+// A sum that comes to those of a block takes its place among the two highest.
+#[tactic(auto, unfolding(lists::specs::Checks::check))]
+fn placed(block: Block, sum: u64) -> Block
+    ensures { result ≡ placed sum block }
 {
-    let flagged = block.flagged + flagged_loss(amount, weak);
-    if block.top < amount {
+    if block.top < sum {
         return Block {
-            top: amount,
+            top: sum,
             second: block.top,
-            flagged,
+            ..block
         };
     }
     Block {
-        top: block.top,
-        second: block.second.max(amount),
-        flagged,
+        second: block.second.max(sum),
+        ..block
     }
+}
+
+// A sum of the block grows. Where it was the highest it stays so, and the second highest, which is another's, stays what it is; where it was not, the highest
+// is another's, and the sum is placed like one that comes: what it was is no more than the second highest, and gives way.
+#[tactic(auto, unfolding(lists::specs::Checks::check))]
+fn grown(block: Block, before: u64, sum: u64) -> Block
+    ensures { result ≡ grown before sum block }
+{
+    if before == block.top {
+        return Block { top: sum, ..block };
+    }
+    placed(block, sum)
+}
+
+// A record joins the block and the groups' sums. (Its fields come one by one: what stands before the next record is no concern of the block.) `Slight` is asked here
+// and at `worse`, and is no invariant of `Block`: that no sixth flag joins is known of the record before, and not of a block.
+#[tactic(auto, unfolding(lists::specs::Checks::check))]
+fn joined(block: Block, sums: &mut [u64; 64], group: u8, amount: u32, weak: bool) -> Block
+    requires slight { Slight block }
+    requires moderate { AtMost sums.old block.top × (group ≤ group_limit) × (amount ≤ amount_limit) }
+    ensures floor { result.floor ≡ block.floor }
+    ensures joined { (xs : List StressLoss) (x : StressLoss) → Kept xs sums.old block → x.loss ≡ amount → x.group ≡ group → nonzero x.weak ≡ weak
+        → Kept (x ∷ xs) sums.new result }
+{
+    let flagged = block.flagged + flagged_loss(amount, weak);
+    let block = Block { flagged, ..block };
+    if group == 0 {
+        return placed(block, block.floor + u64::from(amount));
+    }
+    let place = usize::from(group) - 1;
+    let before = sums[place].max(block.floor);
+    let sum = before + u64::from(amount);
+    sums[place] = sum;
+    grown(block, before, sum)
 }
 
 // The worse of two blocks, the earlier one of equals.
 #[tactic(auto, unfolding(lists::specs::Checks::check))]
 fn worse(worst: Covered, block: Block) -> Covered
     requires { Slight block }
-    ensures { result ≡ worse_of worst block }
+    ensures { result ≡ worse_of worst (cover_in block) block.flagged }
 {
-    let cover = u64::from(block.top) + u64::from(block.second);
+    let cover = (block.top - block.floor) + (block.second - block.floor);
     if worst.cover < cover {
         return Covered {
             cover,
@@ -98,23 +132,26 @@ fn worse(worst: Covered, block: Block) -> Covered
     worst
 }
 
-// 4 to 8 record by record, and C and W of a sheet in order. No `try_fold`: its closure would take and hand back `(before, block, worst)` at
+// 4 to 8 record by record, and C and W of a sheet in order. No `try_fold`: its closure would take and hand back `(before, block, sums, worst)` at
 // each record, and is no plainer. Nor one function with `sheets::columns::read`: each turn differs, and what is carried.
+#[tactic(auto, unfolding(sheets::specs::Sheet::missized))]
 pub fn read(sheet: &[u8]) -> Result<Covered, Refusal>
+    requires { missized stress_limit sheet.now ≡ false }
     ensures { result ≡ answered (stress_refusal sheet.now) (covered_of sheet.now) }
 {
     let (records, _) = sheet.as_chunks::<16>();
     let mut before = None;
-    let mut block = no_block();
+    let mut block = opened(0);
+    let mut sums = [0; 64];
     let mut worst = Covered { cover: 0, weak: 0 };
     for (i, bytes) in records.iter().enumerate() {
-        let Loss { amount, weak, next } = located(read_loss(&before, bytes), i + 1)?;
+        let loss = located(read_loss(&before, bytes), i + 1)?;
         if !same_block(&before, bytes) {
             worst = worse(worst, block);
-            block = no_block();
+            block = opened(block.top);
         }
-        block = joined(block, amount, weak);
-        before = Some(next);
+        block = joined(block, &mut sums, loss.group, loss.amount, loss.weak);
+        before = Some(loss.next);
     }
     Ok(worse(worst, block))
 }

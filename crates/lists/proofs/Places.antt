@@ -1,9 +1,9 @@
 -- What holds at every place of a list, after a place is replaced.
-use Prim.Native.Nat.{ℕ, zero, suc, ◌+◌, ◌-◌, ◌<◌}
-use mathlib.Core.Path.{◌≡◌, refl, ◌∙◌}
+use Prim.Native.Nat.{ℕ, zero, suc, ◌+◌, ◌-◌, ◌<◌, max}
+use mathlib.Core.Path.{◌≡◌, refl, sym, ap, ◌∙◌}
 use mathlib.Core.Bool.{Bool, true, false, cond}
 use mathlib.Core.Logic.{⊎_elim}
-use mathlib.Core.List.{List, [], ◌∷◌, map}
+use mathlib.Core.List.{List, [], ◌∷◌, ◌++◌, map}
 use native.Mathlib.Nat.{eq-or-lt_of_le, eq-zero-or-pos}
 use native.Mathlib.Omega.{arith}
 use borrow.Author.Tests.{eqb-true, eqb-false}
@@ -37,3 +37,20 @@ raised ts p w q h = go (eqb q p) refl
         let s : q ≡ p = eqb-true q p e in
         rw s (get_or-set_same ts p (get_or ts p 0 + w) 0 h)
     go false e = get_or-set_other ts p q (get_or ts p 0 + w) 0 (eqb-false q p e) ∙ omega arith
+
+-- the same of a table whose numbers count from a floor
+pub raised_above : (ts : List ℕ) (floor p w q : ℕ) → p < length ts
+    → max (get_or (set ts p (max (get_or ts p 0) floor + w)) q 0) floor ≡ max (get_or ts q 0) floor + cond (eqb q p) w 0
+raised_above ts floor p w q h = go (eqb q p) refl
+  where
+    go : (b : Bool) → eqb q p ≡ b → max (get_or (set ts p (max (get_or ts p 0) floor + w)) q 0) floor ≡ max (get_or ts q 0) floor + cond b w 0
+    go true e =
+        let s : q ≡ p = eqb-true q p e in
+        rw s (omega (arith, get_or-set_same ts p (max (get_or ts p 0) floor + w) 0 h))
+    go false e = omega (arith, get_or-set_other ts p q (max (get_or ts p 0) floor + w) 0 (eqb-false q p e))
+
+-- a place of the second of two lists behind one another
+pub set_behind : {A : Type 0} (xs ys : List A) (k i : ℕ) (v : A) → i ≡ length xs + k → xs ++ set ys k v ≡ set (xs ++ ys) i v
+set_behind [] ys k i v e = let same : i ≡ k = omega arith in ap (λ j. set ys j v) (sym same)
+set_behind (x ∷ xs) ys k zero v e = absurd (omega arith)
+set_behind (x ∷ xs) ys k (suc i) v e = ap (λ zs. x ∷ zs) (set_behind xs ys k i v (omega arith))

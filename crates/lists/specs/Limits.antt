@@ -1,5 +1,5 @@
 -- The limits of document 01 and of the requests of document 02, each once. Money is whole thousands of rupees.
-use Rattle.std.specs.Prelude.{ℕ}
+use Rattle.std.specs.Prelude.{ℕ, ◌+◌, ◌*◌, ◌/◌}
 
 -- "Members are numbered 1 to 64."
 abbrev pub member_limit : ℕ
@@ -46,6 +46,18 @@ scenario_limit = 64
 -- the weak flags that a block may have: the sixth is refused
 abbrev pub weak_limit : ℕ
 weak_limit = 5
+
+-- document 02, request 5: "the group, 1 to 64"
+abbrev pub group_limit : ℕ
+group_limit = 64
+
+-- the most that C + W comes to, 27,600,000,000, since a group's sum may be that of all losses of a block: 64 amounts, and the five flagged ones again
+abbrev pub exposure_limit : ℕ
+exposure_limit = (member_limit + weak_limit) * amount_limit
+
+-- the most that A comes to, 125 percent of that, 34,500,000,000; no quantum is above it
+abbrev pub quantum_limit : ℕ
+quantum_limit = 125 * exposure_limit / 100
 
 -- document 02, request 1: "an amount above 26,000,000,000" is not printed
 abbrev pub printed_limit : ℕ

@@ -43,6 +43,9 @@ pub const SCENARIO_LIMIT: u64 = 64;
 // the weak flags that a block may have: the sixth is refused
 pub const WEAK_LIMIT: u64 = 5;
 
+// document 02, request 5: "the group, 1 to 64"
+pub const GROUP_LIMIT: u64 = 64;
+
 // the largest amount on a printed page
 pub const PRINTED_LIMIT: u64 = 26_000_000_000;
 

@@ -5,7 +5,7 @@ use Rattle.refusal.specs.declared.Refusal.{Refusal}
 
 -- "4 to 8 run record by record"
 abbrev pub fault_number : Fault → ℕ
--- 4. "A member, day, scenario, flag or zero byte is outside its values."
+-- 4. "A member, day, scenario, flag or zero byte is outside its values.", and with document 02, request 5, a group
 fault_number Fault.Outside = 4
 -- 5. "An amount is missing."
 fault_number Fault.Missing = 5

@@ -3,7 +3,7 @@
 
 ghost use Rattle.std.specs.Prelude.{◌≡◌, cond, ◌&&◌, ◌+◌, ◌^◌, ◌≤◌, ◌<◌, max, eqb, map};
 ghost use Rattle.lists.specs.Highest.{highest as highest_of_all};
-ghost use Rattle.lists.specs.Limits.{amount_limit, allocation_limit, contribution_floor};
+ghost use Rattle.lists.specs.Limits.{amount_limit, allocation_limit, quantum_limit, contribution_floor};
 ghost use Rattle.lists.specs.Sums.{total, plus, keep, AtMost};
 ghost use Rattle.refusal.specs.Refusal.{answered};
 ghost use Rattle.sheets.specs.Bytes.{nonzero};
@@ -82,8 +82,8 @@ fn unshared(part: u64, whole: u64) -> bool
     0 < part && whole == 0
 }
 
-// A part of a quantum by its column. Bounds are clauses, here and in the layers: each sum has its own, and a type made for one would be taken apart
-// again by what splits, adds or lowers it.
+// A part of a quantum by its column. It is within the split's bound where the quantum itself may not be: at most half of that, and 2 more, goes by volume. Bounds are
+// clauses, here and in the layers: each sum has its own, and a type made for one would be taken apart again by what splits, adds or lowers it.
 fn part(sum: u64, whole: u64, weights: &[u32; 64]) -> [u64; 64]
     requires moderate { sum ≤ allocation_limit }
     requires whole_is { whole ≡ total weights.now }
@@ -148,7 +148,7 @@ impl SharesSheet {
 
     #[tactic(auto, unfolding(crate::specs::Requirements::requirements_of, crate::specs::Requirements::parts_of))]
     fn requirements(&self, quantum: u64) -> [u64; 64]
-        requires { quantum ≤ allocation_limit }
+        requires { quantum ≤ quantum_limit }
         ensures { result ≡ requirements_of quantum self.now }
     {
         let parts = parts_of(quantum);
@@ -162,7 +162,7 @@ impl SharesSheet {
 
     // A quantum shared, refused or not.
     pub fn shared(&self, quantum: u64) -> Shared
-        requires { quantum ≤ allocation_limit }
+        requires { quantum ≤ quantum_limit }
         ensures { result ≡ shared_of quantum self.now }
     {
         let requirements = self.requirements(quantum);
@@ -175,7 +175,7 @@ impl SharesSheet {
     // A quantum shared, or refusal 9, or 10.
     #[tactic(auto, unfolding(lists::specs::Checks::check, crate::specs::Requirements::sharing_refusal))]
     pub fn share(&self, quantum: u64) -> Result<Shared, Refusal>
-        requires { quantum ≤ allocation_limit }
+        requires { quantum ≤ quantum_limit }
         ensures { result ≡ answered (sharing_refusal quantum self.now) (shared_of quantum self.now) }
     {
         if self.any_unshared(quantum) {

@@ -7,5 +7,5 @@ use Rattle.rows.specs.declared.Record.{Record}
 pub member_16 : (m a b c : ℕ) → length (bytes_of (Record.Member m (a ∷ b ∷ c ∷ []))) ≡ 16
 member_16 m a b c = refl
 
-pub stress_16 : (d s m w l : ℕ) → length (bytes_of (Record.Stress d s m w l)) ≡ 16
-stress_16 d s m w l = refl
+pub stress_16 : (d s m w l g : ℕ) → length (bytes_of (Record.Stress d s m w l g)) ≡ 16
+stress_16 d s m w l g = refl

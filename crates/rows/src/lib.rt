@@ -30,6 +30,7 @@ pub enum Record {
         member: u8,
         weak: u8,
         loss: u32,
+        group: u8,
     },
 }
 
@@ -68,7 +69,7 @@ fn read_member(line: &[u8]) -> Option<Record>
     })
 }
 
-// A line of a stress sheet.
+// A line of a stress sheet. Without a sixth cell, the group, a member is alone.
 fn read_stress(line: &[u8]) -> Option<Record>
     ensures { result ≡ stress_of (cells_of line.now) }
 {
@@ -78,6 +79,10 @@ fn read_stress(line: &[u8]) -> Option<Record>
     let member = cells.next()?;
     let weak = cells.next()?;
     let loss = cells.next()?;
+    let group = match cells.next() {
+        Some(cell) => read_byte(cell)?,
+        None => 0,
+    };
     if cells.next().is_some() {
         return None;
     }
@@ -87,6 +92,7 @@ fn read_stress(line: &[u8]) -> Option<Record>
         member: read_byte(member)?,
         weak: read_byte(weak)?,
         loss: read_amount(loss)?,
+        group,
     })
 }
 
@@ -126,11 +132,13 @@ impl Record {
                 member,
                 weak,
                 loss,
+                group,
             } => {
                 bytes[..2].copy_from_slice(&day.to_le_bytes());
                 bytes[2..4].copy_from_slice(&scenario.to_le_bytes());
                 bytes[4] = member;
                 bytes[5] = weak;
+                bytes[6] = group;
                 bytes[8..12].copy_from_slice(&loss.to_le_bytes());
             }
         }

@@ -10,10 +10,6 @@ use Rattle.requirements.specs.Requirements.{requirements_of}
 use Rattle.sizing.specs.Sizing.{quantum_for, fund_refusal, fund_figures, sizing_refusal}
 use Rattle.sizing.specs.declared.Funded.{Funded}
 
--- C + W: two losses, and five flagged ones
-abbrev pub exposure_limit : ℕ
-exposure_limit = 2_800_000_000
-
 -- the figures, and the requirements of their quantum
 abbrev pub funded_of : Covered → Columns → ℕ → ℕ → Funded
 funded_of covered columns prevailing available =

@@ -1,12 +1,11 @@
 // The figures of the fund, from C + W, P, V and b1.
 ghost use Rattle.std.specs.Prelude.{◌≡◌, ◌-◌, ◌≤◌, min, max};
-ghost use Rattle.lists.specs.Limits.{sum_limit, allocation_limit};
+ghost use Rattle.lists.specs.Limits.{sum_limit, exposure_limit};
 ghost use Rattle.sizing.specs.Fund.{percent_up, target_of, minimum_of};
-ghost use Rattle.sizing.specs.Parts.{exposure_limit};
 
 // A percentage of an amount, rounded up.
 fn percent_up(percent: u64, x: u64) -> u64
-    requires { (percent ≤ 125) × (x ≤ allocation_limit) }
+    requires { (percent ≤ 125) × (x ≤ exposure_limit) }
     ensures { result ≡ percent_up percent x }
 {
     (percent * x).div_ceil(100)
@@ -28,7 +27,7 @@ pub fn minimum(exposure: u64, prevailing: u64) -> u64
 
 // Our own contribution, from the minimum.
 pub fn own(minimum: u64, available: u64, highest: u64) -> u64
-    requires { minimum ≤ allocation_limit }
+    requires { minimum ≤ exposure_limit }
     ensures { result ≡ min available (max (percent_up 25 minimum) highest) }
 {
     available.min(percent_up(25, minimum).max(highest))

@@ -1,16 +1,36 @@
 -- What the callers know of a record of a stress sheet that is in order.
-use Rattle.std.proofs.Common.{◌≡◌, ℕ, ◌+◌, ◌≤◌, List, Option, None, arith}
-use Rattle.lists.specs.Limits.{amount_limit, weak_limit}
+use Rattle.std.proofs.Common.{◌≡◌, ℕ, ◌+◌, ◌<◌, ◌≤◌, cond, true, List, Option, Some, None, arith}
+use Rattle.lists.specs.Limits.{member_limit, amount_limit, weak_limit, group_limit}
 use Rattle.lists.specs.Checks.{check}
 use Rattle.std.proofs.lemmas.Bool.Decides.{nat_tests}
-use Rattle.stress.specs.Stress.{weak_at, loss_at, flags_before, stress_fault}
+use Rattle.stress.specs.Stress.{stressed_at, weak_at, group_at, loss_at, same_block, flags_before, stress_outside, stress_rises, stress_fault}
 use Rattle.stress.specs.declared.Before.{Before}
+
+-- the latest member of the record's block before it, 0 where the record opens its block
+abbrev pub member_before : Option Before → List ℕ → ℕ
+member_before None s = 0
+member_before (Some before) s = cond (same_block (Some before) s) before.member 0
 
 -- within which limits a record in order is
 pub record LossInOrder (before : Option Before) (s : List ℕ) : Type 0 where
   pub loss_most : loss_at s ≤ amount_limit
+  pub group_most : group_at s ≤ group_limit
+  pub member_rises : member_before before s < stressed_at s
+  pub member_most : stressed_at s ≤ member_limit
   pub flags_most : flags_before before s + weak_at s ≤ weak_limit
 
+rises : (before : Option Before) (s : List ℕ) → stress_rises before s ≡ true → 1 ≤ stressed_at s → member_before before s < stressed_at s
+unfolding stress_rises
+rises None s e h = omega arith
+rises (Some before) s e h = grind (arith, nat_tests)
+
 pub loss_in-order : (before : Option Before) (s : List ℕ) → stress_fault before s ≡ None → LossInOrder before s
-unfolding check stress_fault
-loss_in-order before s e = record { loss_most = grind (arith, nat_tests); flags_most = grind (arith, nat_tests) }
+unfolding check stress_fault stress_outside
+loss_in-order before s e =
+    record {
+      loss_most = grind (arith, nat_tests);
+      group_most = grind (arith, nat_tests);
+      member_rises = rises before s (grind (arith, nat_tests)) (grind (arith, nat_tests));
+      member_most = grind (arith, nat_tests);
+      flags_most = grind (arith, nat_tests);
+    }

@@ -1,8 +1,9 @@
 -- A record of a stress sheet, document 01, "Stress sheet and sizing": "bytes 0-1 day (1 to 184), 2-3 scenario (1 to 64), 4 member, 5 weak
--- flag (0 or 1), 6-7 zero, 8-11 loss (FFFFFFFF is missing), 12-15 zero".
+-- flag (0 or 1), 6-7 zero, 8-11 loss (FFFFFFFF is missing), 12-15 zero"; but for byte 6, since document 02, request 5: "Byte 6 of a stress record is
+-- the group, 1 to 64, or 0 for a member alone."
 use Rattle.std.specs.Prelude.{ℕ, zero, suc, ◌+◌, Bool, true, false, ◌||◌, ◌&&◌, not, cond, List, eqb, ltb, Option, Some, None}
 use Rattle.lists.specs.Checks.{check}
-use Rattle.lists.specs.Limits.{member_limit, amount_limit, day_limit, scenario_limit, weak_limit}
+use Rattle.lists.specs.Limits.{member_limit, amount_limit, day_limit, scenario_limit, weak_limit, group_limit}
 use Rattle.refusal.specs.Refusal.{at_record}
 use Rattle.refusal.specs.declared.Fault.{Fault}
 use Rattle.refusal.specs.declared.Refusal.{Refusal}
@@ -22,6 +23,9 @@ stressed_at s = byte s 4
 
 abbrev pub weak_at : List ℕ → ℕ
 weak_at s = byte s 5
+
+abbrev pub group_at : List ℕ → ℕ
+group_at s = byte s 6
 
 abbrev pub loss_at : List ℕ → ℕ
 loss_at s = le32 s 8
@@ -51,18 +55,19 @@ passed before s =
     }
 
 abbrev pub loss_of : Option Before → List ℕ → Loss
-loss_of before s = record { amount = loss_at s; weak = nonzero (weak_at s); next = passed before s }
+loss_of before s = record { amount = loss_at s; weak = nonzero (weak_at s); group = group_at s; next = passed before s }
 
--- whether a day, a scenario, a member or a flag is outside its values
+-- whether a day, a scenario, a member, a flag or a group is outside its values
 abbrev pub stress_beyond : List ℕ → Bool
 stress_beyond s =
     beyond 1 day_limit (day_at s) || beyond 1 scenario_limit (scenario_at s) || beyond 1 member_limit (stressed_at s) || beyond 0 1 (weak_at s)
+    || beyond 0 group_limit (group_at s)
 
--- 4. "A member, day, scenario, flag or zero byte is outside its values."
+-- 4. "A member, day, scenario, flag or zero byte is outside its values."; document 02, request 5: "refusal 4 covers byte 6 above 64"
 unfoldable pub stress_outside : List ℕ → Bool
 stress_outside s =
     stress_beyond s
-    || nonzero (byte s 6) || nonzero (byte s 7)
+    || nonzero (byte s 7)
     || nonzero (byte s 12) || nonzero (byte s 13) || nonzero (byte s 14) || nonzero (byte s 15)
 
 -- 7. "A record does not rise above the one before.": "Day, scenario, member strictly rise as a triple."

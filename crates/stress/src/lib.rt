@@ -27,10 +27,11 @@ impl Model for Before {
     ghost invariant = { λ b. BlockWithin b.day b.scenario b.flags };
 }
 
-// A record in order: its loss, whether it is flagged as weak, and what stands before the next record.
+// A record in order: its loss, whether it is flagged as weak, its group (0 for a member alone), and what stands before the next record.
 #[derive(Clone, Copy)]
 pub struct Loss {
     pub amount: u32,
     pub weak: bool,
+    pub group: u8,
     pub next: Before,
 }

@@ -1,7 +1,7 @@
 //! The files that the benchmarks read.
 
 use crate::engine::{MEMBERS, MEMBER_SHEET_BYTES};
-use crate::generate::{member_record, stress_record};
+use crate::generate::{grouped_record, member_record};
 use crate::rng::Rng;
 use std::fmt::Write;
 use std::fs;
@@ -25,24 +25,40 @@ pub fn register_sheet() -> Vec<u8> {
     sheet
 }
 
-/// `stress-4096` and its first quarter and half, and `shares`.
+/// `stress-sizing-4096` and its first quarter and half, the same losses with the members in groups, and `shares`.
 pub fn write_sheets(dir: &Path) -> io::Result<()> {
     let mut rng = Rng::new(1);
-    let stress = stress_sheet(&mut rng);
-    for parts in [4, 2, 1] {
-        let part = &stress[..stress.len() / parts];
-        fs::write(dir.join(format!("stress-{}", part.len() / 16)), part)?;
-    }
+    let losses: Vec<u32> = (0..64 * BLOCKS)
+        .map(|_| rng.below(30_000_000) as u32)
+        .collect();
+    let write = |case: &str, width: usize, group: fn(u8) -> u8| -> io::Result<()> {
+        let stress = stress_sheet(&losses, width, group);
+        for parts in [4, 2, 1] {
+            let part = &stress[..stress.len() / parts];
+            fs::write(dir.join(format!("stress-{case}-{}", part.len() / 16)), part)?;
+        }
+        Ok(())
+    };
+    write("sizing", 64, |_| 0)?;
+    write("one_group", 64, |_| 1)?;
+    write("pairs", 64, |member| member.div_ceil(2))?;
+    write("single", 1, |_| 1)?;
     fs::write(dir.join("shares"), shares_sheet(&mut rng))
 }
 
-/// 4,096 records in 64 blocks.
-fn stress_sheet(rng: &mut Rng) -> Vec<u8> {
+/// These losses, so many members to a block, with the group of each member.
+fn stress_sheet(losses: &[u32], width: usize, group: fn(u8) -> u8) -> Vec<u8> {
     let mut sheet = Vec::new();
-    for block in 0..BLOCKS {
-        for member in 1..=64u8 {
-            let loss = rng.below(30_000_000) as u32;
-            sheet.extend(stress_record(block, member, member % 13 == 0, loss));
+    for (block, losses) in losses.chunks(width).enumerate() {
+        for (member, &loss) in (1u8..).zip(losses) {
+            let group = group(member);
+            sheet.extend(grouped_record(
+                block as u64,
+                member,
+                member % 13 == 0,
+                group,
+                loss,
+            ));
         }
     }
     sheet

@@ -13,8 +13,8 @@ use std::path::{Path, PathBuf};
 use std::sync::atomic::{AtomicBool, AtomicU64, Ordering};
 use std::sync::Mutex;
 
-/// A run of so many drills and more comes to all that their pools can come to.
-const MANY_DRILLS: u64 = 1_000;
+/// A run of so many drills or sizings and more comes to all that their pools and groups can come to.
+const MANY: u64 = 1_000;
 
 pub struct Options {
     pub bin: PathBuf,
@@ -72,6 +72,15 @@ impl Case {
                 ];
                 runner.run("run_sizing", &arguments, &[])
             }
+        }
+    }
+
+    /// What the expected answer reached.
+    fn reach(&self, expected: &[u8], coverage: &mut Coverage) {
+        let expected = String::from_utf8_lossy(expected);
+        coverage.add_output(&expected);
+        if let Case::Sizing(case) = self {
+            coverage.add_groups(case, &expected);
         }
     }
 
@@ -156,8 +165,14 @@ pub fn compare(options: &Options) -> io::Result<bool> {
     }
     let coverage = run.coverage.into_inner().expect("no worker panicked");
     coverage.print();
-    let unreached = coverage.unreached();
-    if options.only.is_none() && options.drills >= MANY_DRILLS && !unreached.is_empty() {
+    let mut unreached = Vec::new();
+    if options.only.is_none() && options.drills >= MANY {
+        unreached.extend(coverage.unreached());
+    }
+    if options.only.is_none() && options.sizings >= MANY {
+        unreached.extend(coverage.unreached_groups());
+    }
+    if !unreached.is_empty() {
         println!("never reached: {}", unreached.join(", "));
         return Ok(false);
     }
@@ -204,7 +219,7 @@ fn try_case(
 ) -> io::Result<Option<String>> {
     let case = Case::make(options, number);
     let expected = case.expected();
-    coverage.add_output(&String::from_utf8_lossy(&expected));
+    case.reach(&expected, coverage);
     let ran = case.run(runner)?;
     let counted = case.count(&ran.stdout, coverage);
     if ran.fault.is_none() && ran.stdout == expected && counted.is_ok() {

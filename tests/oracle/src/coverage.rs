@@ -1,6 +1,7 @@
 //! What the expected answers reached, for a reader who wants to know how deep a run went.
 
-use crate::engine::MOST_JUNIOR;
+use crate::engine::{cover, MAX_AMOUNT, MOST_JUNIOR, RECORD};
+use crate::generate::SizingCase;
 use crate::ledger::Tally;
 
 #[derive(Clone, Default)]
@@ -12,10 +13,53 @@ pub struct Coverage {
     all_layers: u64,
     openings: u64,
     sizings: u64,
+    groups: Groups,
     unreadable: u64,
     pages: u64,
     no_pages: u64,
     tally: Tally,
+}
+
+/// What groups did in sizings.
+#[derive(Clone, Copy, Default)]
+struct Groups {
+    /// C is more than it would be if all members were alone.
+    raised: u64,
+    /// C is more, and W differs: another block sets them.
+    moved: u64,
+    /// C is more than any two members can lose.
+    beyond_two: u64,
+    /// The record that is refused with 4 has a group above 64.
+    outside: u64,
+    /// The record that is refused with 8 has a group.
+    sixth: u64,
+}
+
+impl Groups {
+    fn add(&mut self, other: Groups) {
+        self.raised += other.raised;
+        self.moved += other.moved;
+        self.beyond_two += other.beyond_two;
+        self.outside += other.outside;
+        self.sixth += other.sixth;
+    }
+
+    fn add_accepted(&mut self, stress: &[u8]) {
+        let mut apart = stress.to_vec();
+        for record in apart.chunks_exact_mut(RECORD) {
+            record[6] = 0;
+        }
+        let [together, alone] = [stress, &apart].map(|sheet| cover(sheet).expect("a good sheet"));
+        let raised = together.c > alone.c;
+        self.raised += raised as u64;
+        self.moved += (raised && together.w != alone.w) as u64;
+        self.beyond_two += (together.c > 2 * MAX_AMOUNT as u64) as u64;
+    }
+
+    fn add_refused(&mut self, number: &str, group: u8) {
+        self.outside += (number == "4" && group > 64) as u64;
+        self.sixth += (number == "8" && group > 0) as u64;
+    }
 }
 
 impl Coverage {
@@ -35,6 +79,19 @@ impl Coverage {
             }
         }
         self.all_layers += reached.iter().all(|&r| r) as u64;
+    }
+
+    /// Adds what groups did in one sizing, by its expected output.
+    pub fn add_groups(&mut self, case: &SizingCase, output: &str) {
+        let words: Vec<&str> = output.lines().next().unwrap_or("").split(' ').collect();
+        match words[..] {
+            ["accepted", ..] => self.groups.add_accepted(&case.stress),
+            ["refused", number @ ("4" | "8"), "record", place] => {
+                let group = place.parse().ok().and_then(|place| group_at(case, place));
+                self.groups.add_refused(number, group.unwrap_or(0));
+            }
+            _ => {}
+        }
     }
 
     pub fn add_tally(&mut self, tally: Tally) {
@@ -63,6 +120,7 @@ impl Coverage {
         self.all_layers += other.all_layers;
         self.openings += other.openings;
         self.sizings += other.sizings;
+        self.groups.add(other.groups);
         self.unreadable += other.unreadable;
         self.pages += other.pages;
         self.no_pages += other.no_pages;
@@ -93,8 +151,21 @@ impl Coverage {
             ("refusal 21", self.refusals[21]),
             ("refusal 22", self.refusals[22]),
         ];
-        let never = times.into_iter().filter(|&(_, times)| times == 0);
-        never.map(|(what, _)| what).collect()
+        never(&times)
+    }
+
+    /// What many sizings come to in their groups, and these never did.
+    pub fn unreached_groups(&self) -> Vec<&'static str> {
+        never(&[
+            ("a group that raises C", self.groups.raised),
+            (
+                "a group that makes another block's W count",
+                self.groups.moved,
+            ),
+            ("a C above two members' losses", self.groups.beyond_two),
+            ("refusal 4 for a group", self.groups.outside),
+            ("refusal 8 of a record with a group", self.groups.sixth),
+        ])
     }
 
     fn add_refusal(&mut self, number: &str) {
@@ -130,6 +201,15 @@ impl Coverage {
             "accepted: {} openings, {} defaults, {} payments, {} replenishments, {} closes, {} sizings",
             self.openings, t.defaults, t.payments, t.replenishments, t.closes, self.sizings
         );
+        let groups = &self.groups;
+        println!(
+            "sizings whose C a group raised: {}, with another block's W: {}; with a C above what two members can lose: {}",
+            groups.raised, groups.moved, groups.beyond_two
+        );
+        println!(
+            "sizings refused 4 for a group: {}; 8 for a record with a group: {}",
+            groups.outside, groups.sixth
+        );
         println!(
             "defaults that read rank {MOST_JUNIOR}, accepted: {}; rank {}, refused 15: {}",
             t.most_junior,
@@ -157,6 +237,17 @@ impl Coverage {
         println!("unreadable lines: {}", self.unreadable);
         println!("pages: {}, no page: {}", self.pages, self.no_pages);
     }
+}
+
+fn never(times: &[(&'static str, u64)]) -> Vec<&'static str> {
+    let never = times.iter().filter(|&&(_, times)| times == 0);
+    never.map(|&(what, _)| what).collect()
+}
+
+/// The group of a record of the stress sheet, counted from 1.
+fn group_at(case: &SizingCase, place: usize) -> Option<u8> {
+    let at = place.checked_sub(1)? * RECORD;
+    case.stress.get(at + 6).copied()
 }
 
 /// Adds numbers to others, place by place.
@@ -203,7 +294,9 @@ mod tests {
             coverage.add_tally(count(&case, &printed).unwrap());
             let case = sizing(seed);
             let out = run_sizing(&case.stress, &case.shares, case.prevailing, case.available);
-            coverage.add_output(&String::from_utf8(out).unwrap());
+            let printed = String::from_utf8(out).unwrap();
+            coverage.add_output(&printed);
+            coverage.add_groups(&case, &printed);
         }
         for number in 1..=22 {
             let reached = coverage.refusals[number] > 0;
@@ -223,12 +316,15 @@ mod tests {
         assert!(coverage.refusals[21] > 100 && coverage.refusals[22] > 20);
         assert!(tally.later_loss > 10 && tally.later_rank > 50);
         assert!(tally.just_sums > 10 && tally.alone > 100 && tally.all_called > 100);
+        assert_eq!(coverage.unreached_groups(), [""; 0]);
+        assert!(coverage.groups.raised > 100 && coverage.groups.beyond_two > 5);
     }
 
     #[test]
     fn what_a_run_did_not_reach() {
         let mut coverage = Coverage::default();
         assert_eq!(coverage.unreached().len(), 16);
+        assert_eq!(coverage.unreached_groups().len(), 5);
         coverage.add_output("refused 21\nrefused 22\n");
         coverage.add_tally(Tally {
             pools: [1; 5],

@@ -7,7 +7,9 @@ mod sizing;
 
 pub use damage::{damage_member_sheet, damage_stress_sheet};
 pub use drill::{drill, NOISE};
-pub use sheets::{example_register, member_record, stress_record};
+#[cfg(test)]
+pub use sheets::stress_record;
+pub use sheets::{example_register, grouped_record, member_record};
 pub use sizing::sizing;
 
 /// A register sheet, own contribution and the drill's lines.

@@ -4,8 +4,8 @@ use super::Trial;
 use crate::child::Runner;
 use crate::engine::RECORD;
 use crate::generate::{
-    damage_member_sheet, damage_stress_sheet, drill, example_register, member_record, sizing,
-    stress_record, NOISE,
+    damage_member_sheet, damage_stress_sheet, drill, example_register, grouped_record,
+    member_record, sizing, NOISE,
 };
 use crate::rng::Rng;
 use crate::text::LONGEST_LINE;
@@ -55,7 +55,7 @@ const GOOD_LINES: [(&str, &str); 3] = [
     ("shares", "1,5,6,7\n2,,8,9\r\n  64 , 1 , 2 , 3 #\n,1,1,1"),
     (
         "stress",
-        "1,1,1,0,500\n1,1,2,1,\r\n184,64,64,1,400000000\n,,,,\n65535,65535,255,255,0",
+        "1,1,1,0,500\n1,1,2,1,\r\n1,1,3,0,5, 64 \n1,1,4,0,6,\n184,64,64,1,400000000\n,,,,\n,,,,,\n65535,65535,255,255,0,255",
     ),
 ];
 
@@ -87,9 +87,9 @@ const NUMBERS: [&str; 14] = [
 
 fn stress_sheet() -> Vec<u8> {
     let records = [
-        stress_record(0, 1, false, 50_000),
-        stress_record(0, 2, true, 70_000),
-        stress_record(1, 1, false, 90_000),
+        grouped_record(0, 1, false, 3, 50_000),
+        grouped_record(0, 2, true, 3, 70_000),
+        grouped_record(1, 1, false, 0, 90_000),
     ];
     records.concat()
 }
@@ -255,7 +255,12 @@ impl Maker<'_> {
                 self.drill_about("long line", &line);
                 self.drill("long line, no newline", &line);
             }
-            for (kind, good) in [("register", "1,2,3,4"), ("stress", "1,2,3,0,5")] {
+            let sheets = [
+                ("register", "1,2,3,4"),
+                ("stress", "1,2,3,0,5"),
+                ("stress", "1,2,3,0,5,6"),
+            ];
+            for (kind, good) in sheets {
                 let lines = [
                     fill(good, b' ', ""),
                     fill("", b' ', good),
@@ -425,8 +430,8 @@ impl Maker<'_> {
             "1 2",
             "007",
         ];
-        for kind in ["register", "shares", "stress"] {
-            let count = if kind == "stress" { 5 } else { 4 };
+        let kinds = [("register", 4), ("shares", 4), ("stress", 5), ("stress", 6)];
+        for (kind, count) in kinds {
             for cell in cells {
                 for place in 0..count {
                     let mut line = vec!["1"; count];
@@ -434,19 +439,18 @@ impl Maker<'_> {
                     self.make("one cell", kind, line.join(",").as_bytes());
                 }
             }
-            for count in [0, 1, 2, 3, 4, 5, 6, 7] {
-                self.make(
-                    "count of cells",
-                    kind,
-                    vec!["1"; count].join(",").as_bytes(),
-                );
-                self.make("blank cells", kind, ",".repeat(count).as_bytes());
-            }
             for lines in [64, 65, 4_097] {
                 let line = vec!["1"; count].join(",") + "\n";
                 self.make("many lines", kind, line.repeat(lines).as_bytes());
                 let spoilt = line.repeat(lines) + "x\n";
                 self.make("many lines, the last spoilt", kind, spoilt.as_bytes());
+            }
+        }
+        for kind in ["register", "shares", "stress"] {
+            for count in 0..=8 {
+                let cells = vec!["1"; count].join(",");
+                self.make("count of cells", kind, cells.as_bytes());
+                self.make("blank cells", kind, ",".repeat(count).as_bytes());
             }
         }
     }

@@ -16,6 +16,7 @@ pub use register::{Call, Register};
 pub use sheet::{MEMBER_SHEET_BYTES, RECORD, STRESS_SHEET_BYTES};
 pub use sizing::{review, size};
 pub use split::Split;
+pub use stress::cover;
 pub use waterfall::DefaultAnswer;
 
 /// Members are numbered 1 to this; arrays hold member m at m - 1.

@@ -113,7 +113,7 @@ pub fn size(
 #[cfg(test)]
 mod tests {
     use super::*;
-    use crate::generate::{member_record, stress_record};
+    use crate::generate::{grouped_record, member_record, stress_record};
 
     #[test]
     fn annex_as_bare_numbers() {
@@ -151,6 +151,46 @@ mod tests {
         assert_eq!((slip[0], slip[64]), (0, 7));
     }
 
+    fn c_and_w(records: &[[u8; 16]]) -> (u64, u64) {
+        let cover = cover(&records.concat()).unwrap();
+        (cover.c, cover.w)
+    }
+
+    /// Document 02's example, with a member 4 alone who loses 45 where there is one.
+    #[test]
+    fn groups_count_as_one() {
+        let block = |groups: [u8; 4], members: usize| {
+            let records = [
+                grouped_record(0, 1, false, groups[0], 30),
+                grouped_record(0, 2, true, groups[1], 40),
+                grouped_record(0, 3, false, groups[2], 50),
+                grouped_record(0, 4, false, groups[3], 45),
+            ];
+            c_and_w(&records[..members])
+        };
+        assert_eq!(block([0, 0, 0, 0], 3), (90, 40));
+        assert_eq!(block([1, 1, 0, 0], 3), (120, 40));
+        assert_eq!(block([1, 1, 0, 0], 4), (120, 40));
+        assert_eq!(block([3, 0, 3, 0], 4), (125, 40));
+        assert_eq!(block([0, 2, 2, 0], 4), (135, 40));
+        assert_eq!(block([64, 64, 64, 0], 4), (165, 40));
+        assert_eq!(block([1, 2, 2, 1], 4), (165, 40));
+        assert_eq!(block([9, 9, 9, 9], 4), (165, 40));
+        assert_eq!(block([1, 2, 3, 4], 4), (95, 40));
+    }
+
+    #[test]
+    fn groups_end_with_their_block() {
+        let records = [
+            grouped_record(0, 1, true, 7, 60),
+            grouped_record(0, 2, false, 7, 10),
+            grouped_record(1, 1, false, 7, 50),
+            grouped_record(1, 2, true, 7, 30),
+        ];
+        assert_eq!(c_and_w(&records), (80, 30));
+        assert_eq!(c_and_w(&records[..2]), (70, 60));
+    }
+
     #[test]
     fn refusals_in_number_order() {
         let stress = stress_record(0, 1, false, 5);
@@ -166,6 +206,8 @@ mod tests {
         assert_eq!(number(&[0; 16], &shares, 0, 0, &mut [0; 63]), 3);
         let mut slip = [0; 64];
         assert_eq!(number(&[0; 16], &shares, 0, 0, &mut slip), 4);
+        let group = grouped_record(0, 1, false, 65, 5);
+        assert_eq!(number(&group, &shares, 0, 0, &mut slip), 4);
         let empty_volume = member_record(1, [0, 1, 1]);
         assert_eq!(number(&stress, &empty_volume, 0, 0, &mut slip), 9);
         assert_eq!(number(&stress, &shares, MAX_SUM, 0, &mut slip), 10);

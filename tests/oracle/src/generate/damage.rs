@@ -48,13 +48,14 @@ fn member_fault(rng: &mut Rng, record: &mut [u8]) {
 }
 
 fn stress_fault(rng: &mut Rng, record: &mut [u8]) {
-    match rng.below(7) {
+    match rng.below(8) {
         0 => set_half(record, 0, rng.pick(&[0, 185, 256, 65_535])),
         1 => set_half(record, 2, rng.pick(&[0, 65, 256, 65_535])),
         2 => record[4] = rng.pick(&[0, 65, 255]),
         3 => record[5] = rng.pick(&[2, 255]),
-        4 => record[rng.pick(&[6, 7, 12, 13, 14, 15])] = rng.range(1, 255) as u8,
-        5 => set_amount(record, 8, MISSING),
+        4 => record[6] = rng.pick(&[65, 66, 128, 255]),
+        5 => record[rng.pick(&[7, 12, 13, 14, 15])] = rng.range(1, 255) as u8,
+        6 => set_amount(record, 8, MISSING),
         _ => set_amount(record, 8, rng.pick(&TOO_LARGE)),
     }
 }

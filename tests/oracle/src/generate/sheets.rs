@@ -112,18 +112,54 @@ pub fn shares_sheet(rng: &mut Rng) -> Vec<u8> {
     sheet
 }
 
+/// The record of a member alone.
 pub fn stress_record(block: u64, member: u8, flag: bool, loss: u32) -> [u8; RECORD] {
+    grouped_record(block, member, flag, 0, loss)
+}
+
+pub fn grouped_record(block: u64, member: u8, flag: bool, group: u8, loss: u32) -> [u8; RECORD] {
     let (day, scenario) = (1 + block / 64, 1 + block % 64);
     let mut record = [0; RECORD];
     record[..2].copy_from_slice(&(day as u16).to_le_bytes());
     record[2..4].copy_from_slice(&(scenario as u16).to_le_bytes());
     record[4] = member;
     record[5] = flag as u8;
+    record[6] = group;
     record[8..12].copy_from_slice(&loss.to_le_bytes());
     record
 }
 
 const BLOCKS: u64 = 184 * 64;
+
+/// Which members are of one group.
+#[derive(Clone, Copy)]
+enum Grouping {
+    Alone,
+    Together,
+    Pairs,
+    Among(u64),
+    Mixed(u64),
+}
+
+impl Grouping {
+    fn any(rng: &mut Rng) -> Grouping {
+        use Grouping::*;
+        let groups = rng.pick(&[1, 2, 3, 8, 64]);
+        [Alone, Together, Pairs, Among(groups), Mixed(groups)][rng.weighted(&[30, 5, 15, 20, 30])]
+    }
+
+    /// Alone, together and in pairs, members keep their group through a sheet; else each record takes any of so many, and mixed, half of them none.
+    fn group(self, rng: &mut Rng, member: u8) -> u8 {
+        match self {
+            Grouping::Alone => 0,
+            Grouping::Together => 64,
+            Grouping::Pairs => member.div_ceil(2),
+            Grouping::Among(groups) => rng.range(1, groups) as u8,
+            Grouping::Mixed(groups) if rng.chance(50) => rng.range(1, groups) as u8,
+            Grouping::Mixed(_) => 0,
+        }
+    }
+}
 
 /// A stress sheet; now and then it is overlong or carries a sixth flag in a block.
 pub fn stress_sheet(rng: &mut Rng) -> Vec<u8> {
@@ -140,6 +176,7 @@ pub fn stress_sheet(rng: &mut Rng) -> Vec<u8> {
     let loss = Scale::any(rng, [2, 25, 13, 30, 12, 8, 10]);
     let flagged = rng.pick(&[0, 5, 30, 90]);
     let most_flags = if rng.chance(15) { 64 } else { 5 };
+    let grouping = Grouping::any(rng);
     let mut sheet = Vec::new();
     let mut block = rng.below(gap);
     while sheet.len() < records * RECORD {
@@ -149,7 +186,9 @@ pub fn stress_sheet(rng: &mut Rng) -> Vec<u8> {
         for member in block_members(rng, width.min(room)) {
             let flag = flags < most_flags && rng.chance(flagged);
             flags += flag as u32;
-            sheet.extend(stress_record(block, member, flag, loss.amount(rng)));
+            let group = grouping.group(rng, member);
+            let loss = loss.amount(rng);
+            sheet.extend(grouped_record(block, member, flag, group, loss));
         }
         block += rng.range(1, gap);
     }

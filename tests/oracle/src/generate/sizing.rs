@@ -1,7 +1,7 @@
 //! Random sizings.
 
 use super::damage::{damage_member_sheet, damage_stress_sheet};
-use super::sheets::{member_record, shares_sheet, stress_record, stress_sheet};
+use super::sheets::{grouped_record, member_record, shares_sheet, stress_record, stress_sheet};
 use super::SizingCase;
 use crate::engine::{MAX_AMOUNT, MAX_SUM};
 use crate::rng::Rng;
@@ -49,6 +49,9 @@ fn at_the_limit(rng: &mut Rng) -> SizingCase {
         return refused_for_b_alone(rng);
     }
     if rng.chance(30) {
+        return all_in_groups(rng);
+    }
+    if rng.chance(30) {
         let shares = (1..=64).flat_map(|m| member_record(m, [7, 7, 7])).collect();
         return SizingCase {
             stress: stress_record(0, 1, false, rng.pick(&[0, 1, MAX_AMOUNT])).to_vec(),
@@ -84,6 +87,29 @@ fn refused_for_b_alone(rng: &mut Rng) -> SizingCase {
     }
 }
 
+/// All 64 members in one group or in two, with the highest losses or about them, shared over equal columns.
+///
+/// C is up to 25,600,000,000, C + W up to 27,600,000,000. Where the last five lose as much less as the flagged add, C + W is
+/// just what 64 requirements can come to.
+fn all_in_groups(rng: &mut Rng) -> SizingCase {
+    let (flags, groups) = (rng.range(0, 5) as u8, rng.range(1, 2) as u8);
+    let less = MAX_AMOUNT / 5 * rng.pick(&[0, flags as u32, 5]);
+    let stress = (1..=64).flat_map(|member| {
+        let loss = if member < 60 {
+            MAX_AMOUNT
+        } else {
+            MAX_AMOUNT - less
+        };
+        grouped_record(0, member, member <= flags, member % groups + 1, loss)
+    });
+    SizingCase {
+        stress: stress.collect(),
+        shares: (1..=64).flat_map(|m| member_record(m, [7, 7, 7])).collect(),
+        prevailing: rng.pick(&[0, MAX_SUM]),
+        available: rng.pick(&[0, 6_400_000_000, MAX_SUM]),
+    }
+}
+
 /// Sums of a few thousand, where a part of the quantum may be zero and so may a column.
 fn small_sums(rng: &mut Rng) -> SizingCase {
     let columns = [(); 3].map(|()| rng.chance(70));
@@ -95,7 +121,8 @@ fn small_sums(rng: &mut Rng) -> SizingCase {
     let mut stress = Vec::new();
     for member in 1..=rng.range(1, 4) as u8 {
         let (flag, loss) = (rng.chance(30), rng.below(4) as u32);
-        stress.extend(stress_record(rng.below(2), member, flag, loss));
+        let group = rng.below(3) as u8;
+        stress.extend(grouped_record(rng.below(2), member, flag, group, loss));
     }
     SizingCase {
         stress,

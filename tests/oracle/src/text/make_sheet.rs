@@ -23,6 +23,9 @@ enum Field {
     Zero(usize),
 }
 
+/// Where the group stands in a stress record: the last cell, which may be left out.
+const GROUP: usize = 6;
+
 impl Kind {
     pub fn named(name: &[u8]) -> Option<Kind> {
         match name {
@@ -71,6 +74,7 @@ fn write_line(kind: Kind, line: &[u8], sheet: &mut Vec<u8>) -> Option<()> {
     if words(line).next().is_none() {
         return Some(());
     }
+    let start = sheet.len();
     let mut cells = line.split(|&b| b == b',').map(trim_spaces);
     for &field in kind.fields() {
         match field {
@@ -80,6 +84,11 @@ fn write_line(kind: Kind, line: &[u8], sheet: &mut Vec<u8>) -> Option<()> {
                 sheet.extend_from_slice(&value.to_le_bytes()[..bytes]);
             }
             Field::Amount => sheet.extend(amount_cell(cells.next()?)?.to_le_bytes()),
+        }
+    }
+    if kind == Kind::Stress {
+        if let Some(group) = cells.next() {
+            sheet[start + GROUP] = plain_cell(group, 1)? as u8;
         }
     }
     cells.next().is_none().then_some(())
@@ -126,6 +135,15 @@ mod tests {
             made(Kind::Stress, "258,1,,1,4294967294").unwrap(),
             [2, 1, 1, 0, 255, 1, 0, 0, 254, 255, 255, 255, 0, 0, 0, 0]
         );
+        assert_eq!(
+            made(Kind::Stress, "1,2,3,0,5,64\n1,2,4,0,6\n1,2,5,0,7,").unwrap(),
+            [
+                [1, 0, 2, 0, 3, 0, 64, 0, 5, 0, 0, 0, 0, 0, 0, 0],
+                [1, 0, 2, 0, 4, 0, 0, 0, 6, 0, 0, 0, 0, 0, 0, 0],
+                [1, 0, 2, 0, 5, 0, 255, 0, 7, 0, 0, 0, 0, 0, 0, 0],
+            ]
+            .concat()
+        );
         assert_eq!(made(Kind::Shares, ",,,").unwrap()[..5], [255, 0, 0, 0, 255]);
         assert_eq!(made(Kind::Shares, ""), Ok(Vec::new()));
     }
@@ -155,5 +173,9 @@ mod tests {
         }
         assert_eq!(made(Kind::Stress, "65536,1,1,0,5"), Err(1));
         assert_eq!(made(Kind::Stress, "1,1,1,256,5"), Err(1));
+        assert_eq!(made(Kind::Stress, "1,1,1,1,5,256"), Err(1));
+        assert_eq!(made(Kind::Stress, "1,1,1,1,5,x"), Err(1));
+        assert_eq!(made(Kind::Stress, "1,1,1,1,5,6,7"), Err(1));
+        assert_eq!(made(Kind::Stress, "1,1,1,1"), Err(1));
     }
 }

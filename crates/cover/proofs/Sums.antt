@@ -74,6 +74,9 @@ module _ (xs : List StressLoss) (x : StressLoss) where
   unfolding losses_of
   sum_joined g = grind (arith, nat_tests)
 
+  sum_at : (i : ℕ) → i < group_limit → get_or (group_sums (x ∷ xs)) i 0 ≡ get_or (group_sums xs) i 0 + cond (eqb x.group (i + 1)) x.loss 0
+  sum_at i h = omega (arith, get_or-group_sums (x ∷ xs) i h, get_or-group_sums xs i h, sum_joined (i + 1))
+
   -- a member alone
   module _ (alone : x.group ≡ 0) where
     alone_joined : losses_of 0 (x ∷ xs) ≡ x.loss ∷ losses_of 0 xs
@@ -83,12 +86,7 @@ module _ (xs : List StressLoss) (x : StressLoss) where
     pub sums_same : group_sums (x ∷ xs) ≡ group_sums xs
     sums_same =
         ext_get_or 0 (group_sums (x ∷ xs)) (group_sums xs) (length-group_sums (x ∷ xs) ∙ sym (length-group_sums xs))
-        (λ i h.
-        let within : i < group_limit = omega (arith, length-group_sums (x ∷ xs)) in
-        let new = get_or-group_sums (x ∷ xs) i within in
-        let old = get_or-group_sums xs i within in
-        let one = sum_joined (i + 1) in
-        grind (arith, nat_tests, new, old, one))
+        (λ i h. let here = sum_at i (omega (arith, length-group_sums (x ∷ xs))) in grind (arith, nat_tests, here))
 
     pub highest_alone : highest (block_sums (x ∷ xs)) ≡ max x.loss (highest (block_sums xs))
     unfolding highest
@@ -111,25 +109,22 @@ module _ (xs : List StressLoss) (x : StressLoss) where
         ext_get_or 0 (group_sums (x ∷ xs)) (set (group_sums xs) k (before + x.loss))
         (length-group_sums (x ∷ xs) ∙ sym (length-set (group_sums xs) k _ ∙ length-group_sums xs))
         (λ i l.
-        let inside : i < group_limit = omega (arith, length-group_sums (x ∷ xs)) in
-        let new = get_or-group_sums (x ∷ xs) i inside in
-        let old = get_or-group_sums xs i inside in
-        let one = sum_joined (i + 1) in
+        let here = sum_at i (omega (arith, length-group_sums (x ∷ xs))) in
         let raise = raised (group_sums xs) k x.loss i (omega (arith, length-group_sums xs)) in
-        grind (arith, nat_tests, new, old, one, raise))
+        grind (arith, nat_tests, here, raise))
 
     -- the other sums
     abbrev pub others : List ℕ
     others = losses_of 0 xs ++ set (group_sums xs) k 0
 
+    all_are : (w : ℕ) → losses_of 0 xs ++ set (group_sums xs) k w ≡ set (all_sums xs) (length (losses_of 0 xs) + k) w
+    all_are w = set_behind (losses_of 0 xs) (group_sums xs) k (length (losses_of 0 xs) + k) w refl
+
+    within : length (losses_of 0 xs) + k < length (all_sums xs)
+    within = omega (arith, length-append (losses_of 0 xs) (group_sums xs), length-group_sums xs)
+
     -- the two highest where the group has v
     module _ (ys : List StressLoss) (v : ℕ) (sums : group_sums ys ≡ set (group_sums xs) k v) (alone : losses_of 0 ys ≡ losses_of 0 xs) where
-      all_are : (w : ℕ) → losses_of 0 xs ++ set (group_sums xs) k w ≡ set (all_sums xs) (length (losses_of 0 xs) + k) w
-      all_are w = set_behind (losses_of 0 xs) (group_sums xs) k (length (losses_of 0 xs) + k) w refl
-
-      within : length (losses_of 0 xs) + k < length (all_sums xs)
-      within = omega (arith, length-append (losses_of 0 xs) (group_sums xs), length-group_sums xs)
-
       highest_with : highest (block_sums ys) ≡ max v (highest others)
       highest_with = rw (highest_all ys, sums, alone, all_are v, all_are 0) (highest-set (all_sums xs) (length (losses_of 0 xs) + k) v within)
 

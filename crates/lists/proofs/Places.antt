@@ -1,6 +1,6 @@
 -- What holds at every place of a list, after a place is replaced.
 use Prim.Native.Nat.{ℕ, zero, suc, ◌+◌, ◌-◌, ◌<◌, max}
-use mathlib.Core.Path.{◌≡◌, refl, sym, ap, ◌∙◌}
+use mathlib.Core.Path.{◌≡◌, refl, sym, ap}
 use mathlib.Core.Bool.{Bool, true, false, cond}
 use mathlib.Core.Logic.{⊎_elim}
 use mathlib.Core.List.{List, [], ◌∷◌, ◌++◌, map}
@@ -28,17 +28,7 @@ map_same f h (x ∷ xs) = rw (h x, map_same f h xs)
 pub by_order : {A : Type 0} (m n : ℕ) → (m < n → A) → (m ≡ n → A) → (n < m → A) → A
 by_order m n l e g = ⊎_elim (λ z. ⊎_elim e l (eq-or-lt_of_le (omega arith))) (λ p. g (omega arith)) (eq-zero-or-pos (m - n))
 
--- a number of a table raised
-pub raised : (ts : List ℕ) (p w q : ℕ) → p < length ts → get_or (set ts p (get_or ts p 0 + w)) q 0 ≡ get_or ts q 0 + cond (eqb q p) w 0
-raised ts p w q h = go (eqb q p) refl
-  where
-    go : (b : Bool) → eqb q p ≡ b → get_or (set ts p (get_or ts p 0 + w)) q 0 ≡ get_or ts q 0 + cond b w 0
-    go true e =
-        let s : q ≡ p = eqb-true q p e in
-        rw s (get_or-set_same ts p (get_or ts p 0 + w) 0 h)
-    go false e = get_or-set_other ts p q (get_or ts p 0 + w) 0 (eqb-false q p e) ∙ omega arith
-
--- the same of a table whose numbers count from a floor
+-- a number raised in a table whose numbers count from a floor
 pub raised_above : (ts : List ℕ) (floor p w q : ℕ) → p < length ts
     → max (get_or (set ts p (max (get_or ts p 0) floor + w)) q 0) floor ≡ max (get_or ts q 0) floor + cond (eqb q p) w 0
 raised_above ts floor p w q h = go (eqb q p) refl
@@ -48,6 +38,12 @@ raised_above ts floor p w q h = go (eqb q p) refl
         let s : q ≡ p = eqb-true q p e in
         rw s (omega (arith, get_or-set_same ts p (max (get_or ts p 0) floor + w) 0 h))
     go false e = omega (arith, get_or-set_other ts p q (max (get_or ts p 0) floor + w) 0 (eqb-false q p e))
+
+-- and in one that has none
+pub raised : (ts : List ℕ) (p w q : ℕ) → p < length ts → get_or (set ts p (get_or ts p 0 + w)) q 0 ≡ get_or ts q 0 + cond (eqb q p) w 0
+raised ts p w q h =
+    let none : max (get_or ts p 0) 0 ≡ get_or ts p 0 = omega arith in
+    omega (arith, raised_above ts 0 p w q h, ap (λ n. get_or (set ts p (n + w)) q 0) none)
 
 -- a place of the second of two lists behind one another
 pub set_behind : {A : Type 0} (xs ys : List A) (k i : ℕ) (v : A) → i ≡ length xs + k → xs ++ set ys k v ≡ set (xs ++ ys) i v

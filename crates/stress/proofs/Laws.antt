@@ -1,8 +1,9 @@
 -- What the callers know of a record of a stress sheet that is in order.
-use Rattle.std.proofs.Common.{◌≡◌, ℕ, ◌+◌, ◌<◌, ◌≤◌, cond, true, List, Option, Some, None, arith}
+use Rattle.std.proofs.Common.{◌≡◌, ℕ, ◌+◌, ◌<◌, ◌≤◌, cond, true, not, ◌||◌, leb, ◌*◌, List, Option, Some, None, arith}
 use Rattle.lists.specs.Limits.{member_limit, amount_limit, weak_limit, group_limit}
 use Rattle.lists.specs.Checks.{check}
 use Rattle.std.proofs.lemmas.Bool.Decides.{nat_tests}
+use Rattle.sheets.specs.Bytes.{beyond, nonzero}
 use Rattle.stress.specs.Stress.{stressed_at, weak_at, group_at, loss_at, same_block, flags_before, stress_outside, stress_rises, stress_fault}
 use Rattle.stress.specs.declared.Before.{Before}
 
@@ -34,3 +35,7 @@ loss_in-order before s e =
       member_most = grind (arith, nat_tests);
       flags_most = grind (arith, nat_tests);
     }
+
+-- a group and a byte of zero behind it, as one number
+pub group_with_zero : (group behind n : ℕ) → n ≡ group + behind * 256 → leb n group_limit ≡ not (beyond 0 group_limit group || nonzero behind)
+group_with_zero group behind n e = grind (arith, nat_tests)

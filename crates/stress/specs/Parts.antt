@@ -12,9 +12,13 @@ le64 s at = le32 s at + le32 s (at + 4) * 4_294_967_296
 abbrev pub block_beyond : List ℕ → Bool
 block_beyond s = beyond 1 day_limit (day_at s) || beyond 1 scenario_limit (scenario_at s)
 
--- whether the member, the flag, the group or the zero byte after it is outside its values
+-- whether the group or the zero byte after it is outside its values
+abbrev pub group_beyond : List ℕ → Bool
+group_beyond s = beyond 0 group_limit (group_at s) || nonzero (byte s 7)
+
+-- whether the member, the flag, or one of these is
 abbrev pub marks_beyond : List ℕ → Bool
-marks_beyond s = beyond 1 member_limit (stressed_at s) || beyond 0 1 (weak_at s) || beyond 0 group_limit (group_at s) || nonzero (byte s 7)
+marks_beyond s = beyond 1 member_limit (stressed_at s) || beyond 0 1 (weak_at s) || group_beyond s
 
 -- whether one of 4, 5 and 6 refuses a record
 unfoldable pub stress_faulty : List ℕ → Bool

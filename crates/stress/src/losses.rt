@@ -5,7 +5,7 @@ ghost use Rattle.std.specs.Prelude.{◌≡◌, ◌+◌, ◌≤◌, true, false, 
 ghost use Rattle.lists.specs.Limits.{weak_limit};
 ghost use Rattle.refusal.specs.Refusal.{answered};
 ghost use Rattle.stress.specs.Stress.{day_at, scenario_at, weak_at, same_block, flags_before, passed, stress_outside, stress_rises, stress_fault, loss_of};
-ghost use Rattle.stress.specs.Parts.{le64, block_beyond, marks_beyond, stress_faulty};
+ghost use Rattle.stress.specs.Parts.{le64, block_beyond, group_beyond, marks_beyond, stress_faulty};
 
 use crate::{Before, Loss};
 use lists::{
@@ -29,15 +29,19 @@ fn placed(bytes: &[u8; 16]) -> bool
     (1..=DAY_LIMIT).contains(&u64::from(day)) & (1..=SCENARIO_LIMIT).contains(&u64::from(scenario))
 }
 
-// Whether the member, the flag, the group and the zero byte after it are within their values. The last two as one number are the group where
-// that byte is zero, and above every group where it is not.
-#[tactic(auto, unfolding(sheets::specs::Bytes::le16))]
+// Whether the group and the zero byte after it are within their values. As one number they are the group where that byte is zero, and above every group
+// where it is not.
+fn grouped(bytes: &[u8; 16]) -> bool
+    ensures { result ≡ not (group_beyond bytes.now) }
+{
+    u64::from(le16(bytes, 6)) <= GROUP_LIMIT
+}
+
+// Whether the member, the flag, the group and the zero byte after it are within their values.
 fn marked(bytes: &[u8; 16]) -> bool
     ensures { result ≡ not (marks_beyond bytes.now) }
 {
-    (1..=LAST_MEMBER).contains(&u64::from(bytes[4]))
-        & (bytes[5] <= 1)
-        & (u64::from(le16(bytes, 6)) <= GROUP_LIMIT)
+    (1..=LAST_MEMBER).contains(&u64::from(bytes[4])) & (bytes[5] <= 1) & grouped(bytes)
 }
 
 #[tactic(auto, unfolding(crate::specs::Stress::stress_outside, sheets::specs::Bytes::le32))]

@@ -1,5 +1,5 @@
 -- What the parts of `layers` promise each other and their callers. No rule of document 01 is here.
-use Rattle.std.specs.Prelude.{ℕ, ◌+◌, ◌-◌, ◌*◌, ◌≤◌, ◌<◌, ◌≡◌, Bool, false, ◌||◌, List, length, get_or}
+use Rattle.std.specs.Prelude.{ℕ, ◌+◌, ◌-◌, ◌*◌, ◌≤◌, ◌<◌, ◌≡◌, Bool, false, ◌||◌, List, length}
 use Rattle.lists.specs.Limits.{member_limit, pool_limit, amount_limit, allocation_limit}
 use Rattle.lists.specs.Sums.{total, keep, AtMost}
 use Rattle.split.specs.Split.{exceeds}

@@ -15,7 +15,7 @@ use Rattle.lists.specs.Sums.{total, keep}
 use Rattle.lists.proofs.Places.{by_order}
 use Rattle.lists.proofs.Sums.{get_or-le-total, total_zeros, get_or_zeros, total-le, length-plus, get_or-plus, total-plus, length-keep, keep-le, kept, unkept, cond-none}
 use Rattle.split.specs.Split.{split_of}
-use Rattle.split.proofs.Laws.{length-split, split-none, total_within, split-within, split_whole}
+use Rattle.split.proofs.Laws.{length-split, split-none, total_within, split-within, split_whole, split_grows}
 use Rattle.ranks.specs.Ranks.{at_rank, rank_gives, charges_from, charges_of}
 
 -- the weights of a rank ----------------------------------------------------------
@@ -147,6 +147,29 @@ module _ (ws rs : List ℕ) where
       (λ h. from_below q l j h ∙ from_juniors q n i j a (omega arith) o)
       (eq-or-lt_of_le b)
 
+  -- of a larger sum nobody is charged less
+  from_grows : (q : ℕ) {l m : ℕ} → l ≤ m → (k : ℕ) → get_or (from q l) k 0 ≤ get_or (from q m) k 0
+  unfolding charges_from
+  from_grows zero h k = omega arith
+  from_grows (suc q) {l} {m} h k =
+      omega (
+        arith,
+        from_suc q l k,
+        from_suc q m k,
+        split_grows (at_rank (suc q) ws rs) {l = gives (suc q) l} {m = gives (suc q) m} (omega arith) k,
+        from_grows q {l = l - gives (suc q) l} {m = m - gives (suc q) m} (omega arith) k,
+      )
+
+  -- nor all together, and no less is left; of any ranks, those too that nobody charges
+  totals_grow : (q : ℕ) {l m : ℕ} → l ≤ m → (total (from q l) ≤ total (from q m)) × (l - total (from q l) ≤ m - total (from q m))
+  unfolding charges_from
+  totals_grow zero h = (omega arith, omega arith)
+  totals_grow (suc q) {l} {m} h =
+      let below = totals_grow q {l = l - gives (suc q) l} {m = m - gives (suc q) m} (omega arith) in (
+        omega (arith, total-suc q l, total-suc q m, below.0),
+        omega (arith, total-suc q l, total-suc q m, below.1),
+      )
+
 -- ranks that are not read --------------------------------------------------------
 
 -- to leave out a rank is to leave out its weight
@@ -169,6 +192,17 @@ module _ (bs : List Bool) (ws rs : List ℕ) (e : length (keep bs ws) ≡ length
   charges_unread sum = from_unread rank_limit sum
 
 -- what callers cite --------------------------------------------------------------
+
+-- a charge by rank grows with its sum: each charge, and what is charged and what is left in all
+module _ {low high : ℕ} (weights ranks : List ℕ) (more : low ≤ high) where
+  pub charges_grow : (k : ℕ) → get_or (charges_of low weights ranks) k 0 ≤ get_or (charges_of high weights ranks) k 0
+  unfolding charges_of
+  charges_grow k = from_grows weights ranks rank_limit more k
+
+  pub charged_and_left-grow : (total (charges_of low weights ranks) ≤ total (charges_of high weights ranks))
+      × (low - total (charges_of low weights ranks) ≤ high - total (charges_of high weights ranks))
+  unfolding charges_of
+  charged_and_left-grow = totals_grow weights ranks rank_limit more
 
 module _ (sum : ℕ) (weights ranks : List ℕ) where
   pub length-charges : length ranks ≡ length weights → length (charges_of sum weights ranks) ≡ length weights

@@ -21,6 +21,10 @@ layer_as g l left left' has has' e p q = rw (← p, ← q) e
 pub leaves : {g l : ℕ} (left has : ℕ) → (g ≡ gives left has) × (l ≡ left - gives left has) → l ≤ left
 leaves left has e = omega arith
 
+-- a layer gives of a larger sum at least as much, and leaves at least as much
+pub layer_grows : {low high : ℕ} (has : ℕ) → low ≤ high → (gives low has ≤ gives high has) × (low - gives low has ≤ high - gives high has)
+layer_grows has more = (omega arith, omega arith)
+
 -- a sum shared, by the rooms that were found and their total
 pub shared_so : (found rooms cs : List ℕ) (left whole g l : ℕ) (over : Bool) → found ≡ rooms → whole ≡ total found → (g ≡ gives left whole) × (l ≡ left - gives left whole)
     → cs ≡ split_of g found → over ≡ exceeds cs found → Shares rooms left cs g l over

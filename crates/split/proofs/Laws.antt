@@ -4,7 +4,7 @@ use mathlib.Core.Path.{◌≡◌, refl, ap, sym, ◌∙◌}
 use mathlib.Core.Bool.{true, false}
 use mathlib.Core.List.{List, [], ◌∷◌, ◌++◌}
 use mathlib.Core.Logic.{◌⊎◌, inl, ⊎_elim}
-use native.Mathlib.Nat.{mul-add, mul_comm, zero-mul, zero-div, mul-le-mul, mul-le-mul_left, mul-le-mul_right, div-le_of_le-mul, div-lt_iff_lt-mul, mul-lt-mul_of_pos_left, mul-div_right, mul-div_left, le-div_iff_mul-le, eq-zero-or-pos, sub-zero}
+use native.Mathlib.Nat.{mul-add, add-mul, mul_comm, zero-mul, zero-div, div-zero, div-mul-le_self, lt-div-mul-add, mul-le-mul, mul-le-mul_left, mul-le-mul_right, div-le_of_le-mul, div-lt_iff_lt-mul, mul-lt-mul_of_pos_left, mul-div_right, mul-div_left, le-div_iff_mul-le, eq-zero-or-pos, sub-zero}
 use native.Mathlib.Numerals.{add-one}
 use native.Mathlib.Omega.{arith}
 use borrow.Author.Tests.{lt-ltb, le-ltb}
@@ -74,6 +74,34 @@ share-rest w v l h = ⊎_elim (λ z. omega arith) (λ p. above p) (eq-zero-or-po
         let q : l - v ≤ w * (v + (l - v)) / (w + v) = at_least w v (l - v) (omega arith) (omega arith) in
         let r : l - v ≤ w * l / (w + v) = rw e at q in
         omega arith
+
+-- a share grows by no more than the sum does
+share-more : (l d w t : ℕ) → w ≤ t → share_of (l + d) w t ≤ share_of l w t + d
+unfolding share_of
+share-more l d w t h =
+    ⊎_elim
+    (λ z. rw z (omega (arith, div-zero (w * (l + d)))))
+    (λ p.
+    let q : w * (l + d) < (w * l / t + d + 1) * t = omega
+    (arith, mul-add w l d, add-mul (w * l / t + d) 1 t, add-mul (w * l / t) d t, mul_comm d t, mul-le-mul_right d h, lt-div-mul-add {a = w * l} p) in
+    let s : w * (l + d) / t < w * l / t + d + 1 = (div-lt_iff_lt-mul p).1 q in
+    omega arith)
+    (eq-zero-or-pos t)
+
+-- a share of a larger sum is at least as large
+share_grows : {l m : ℕ} (w t : ℕ) → l ≤ m → share_of l w t ≤ share_of m w t
+unfolding share_of
+share_grows {l} {m} w t h =
+    ⊎_elim
+    (λ z. rw z (omega (arith, div-zero (w * l))))
+    (λ p. (le-div_iff_mul-le p).1 (omega (arith, div-mul-le_self (w * l) t, mul-le-mul_left w h)))
+    (eq-zero-or-pos t)
+
+-- so what it leaves is at least as large too
+share-leaves : {l m : ℕ} (w t : ℕ) → w ≤ t → l ≤ m → l - share_of l w t ≤ m - share_of m w t
+share-leaves {l} {m} w t b h =
+    let e : l + (m - l) ≡ m = omega arith in
+    omega (arith, rw e at (share-more l (m - l) w t b))
 
 -- the split as a whole --------------------------------------------------------
 
@@ -181,6 +209,13 @@ split_skips l (x ∷ xs) ys =
     total_skips : (xs ys : List ℕ) → total (xs ++ 0 ∷ ys) ≡ total (xs ++ ys)
     total_skips [] ys = omega arith
     total_skips (x ∷ xs) ys = omega (arith, total_skips xs ys)
+
+-- a split grows with its sum, share by share
+pub split_grows : (ws : List ℕ) {l m : ℕ} → l ≤ m → (k : ℕ) → get_or (split_of l ws) k 0 ≤ get_or (split_of m ws) k 0
+unfolding split_of
+split_grows [] h k = zero-le
+split_grows (w ∷ ws) h zero = share_grows w (w + total ws) h
+split_grows (w ∷ ws) h (suc k) = split_grows ws (share-leaves w (w + total ws) (omega arith) h) k
 
 -- where no share is above its weight, none is found to be
 pub exceeds-none : (shares weights : List ℕ) → ((k : ℕ) → get_or shares k 0 ≤ get_or weights k 0) → exceeds shares weights ≡ false

@@ -1,10 +1,10 @@
 -- What the proofs of the calls share: a call is judged and answered.
 use Prim.Native.Nat.{ℕ, ◌≤◌, ◌<◌}
 use mathlib.Core.Path.{◌≡◌, refl}
-use mathlib.Core.Bool.{Bool, false, true≢false, ◌||◌}
+use mathlib.Core.Bool.{Bool, true, false, true≢false, false≢true, ◌||◌}
 use borrow.Author.Tests.{ltb-false}
 use lib.Dec.{eqb, ltb}
-use Rattle.std.specs.Prelude.{Option, Some, None, Ok, Err, is_some}
+use Rattle.std.specs.Prelude.{Option, Some, None, Ok, Err, is_some, is_ok}
 use Rattle.lists.specs.Checks.{check}
 use Rattle.lists.specs.Limits.{member_limit}
 use Rattle.lists.proofs.Checks.{check_by, check_past}
@@ -30,6 +30,12 @@ is_passed None q = refl
 pub is_none : (o : Option Refusal) → is_some o ≡ false → o ≡ None
 is_none (Some f) q = absurd (true≢false q)
 is_none None q = refl
+
+-- a call that is answered with what it allocates was not refused
+pub is_accepted : (found : Option Refusal) (r next : Register) (a : Option Allocation) → is_ok (judged found r a next).reply ≡ true → found ≡ None
+unfolding judged
+is_accepted (Some f) r next a q = absurd (false≢true q)
+is_accepted None r next a q = refl
 
 -- what an answer says, where its refusal is none of a record
 none-allocated : (l : Layer) → 0 ≡ allocated l nothing

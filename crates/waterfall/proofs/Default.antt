@@ -1,10 +1,12 @@
--- Laws of a default: what it charges is what there is to place, no charge passes its pocket, and layers and ranks are charged in order.
+-- Laws of a default: what it charges is what there is to place, no charge passes its pocket, and layers and ranks are charged in order; what is read of
+-- the slip that it leaves.
 use Prim.Native.Nat.{ℕ, ◌+◌, ◌-◌, ◌≤◌, ◌<◌, min}
 use mathlib.Core.Path.{◌≡◌, ap, ◌∙◌}
 use mathlib.Core.Bool.{false}
-use mathlib.Core.List.{List}
+use mathlib.Core.List.{List, ◌++◌, append_assoc}
 use native.Mathlib.Omega.{arith}
-use lib.ListN.{length, get_or}
+use lib.ListN.{length, get_or, take, drop}
+use lib.Seq.{take_at, drop_at}
 use Rattle.lists.specs.Limits.{member_limit}
 use Rattle.lists.specs.Sums.{total, minus}
 use Rattle.lists.proofs.Sums.{get_or-minus, keep-le}
@@ -13,7 +15,7 @@ use Rattle.figures.specs.Figures.{is_live, figure, replace, others}
 use Rattle.figures.specs.declared.Status.{Status}
 use Rattle.figures.proofs.Figures.{live_at}
 use Rattle.waterfall.specs.Default.{standing_of, rooms_of, fallen_call, to_place, on_margin, after1, on_contribution, after2, on_tranche1, after3, after4}
-use Rattle.waterfall.specs.Default.{on_tranche2, after5, on_calls, calls, shortfall, overdrawn}
+use Rattle.waterfall.specs.Default.{on_tranche2, after5, on_calls, calls, shortfall, overdrawn, slip_of}
 use Rattle.waterfall.specs.Register.{Register}
 
 -- a member that is in default, the defaulter too, is none of the others
@@ -118,6 +120,22 @@ module _ (r : Register) (member loss : ℕ) (charged : List ℕ) where
   emptied6 h k =
       let e : min (after5 r member loss charged) (total (rooms_of r member)) ≡ total (rooms_of r member) = omega arith in
       rw e (ap (λ (xs : List ℕ). get_or xs k 0) (split_whole (rooms_of r member)))
+
+-- the slip ---------------------------------------------------------------------------
+
+-- "The slip's first 64 numbers receive each member's layer 4 charge, the next 64 its call"
+module _ (r : Register) (member loss : ℕ) (charged slip : List ℕ) (long : length charged ≡ member_limit) where
+  parted : slip_of r member loss charged slip ≡ charged ++ (calls r member loss charged ++ drop (member_limit + member_limit) slip)
+  parted = append_assoc charged (calls r member loss charged) (drop (member_limit + member_limit) slip)
+
+  pub charges_read : take member_limit (slip_of r member loss charged slip) ≡ charged
+  charges_read = ap (take member_limit) parted ∙ take_at charged _ member_limit long
+
+  pub calls_read : length (calls r member loss charged) ≡ member_limit → take member_limit (drop member_limit (slip_of r member loss charged slip)) ≡ calls r member loss charged
+  calls_read e =
+      ap (λ (xs : List ℕ). take member_limit (drop member_limit xs)) parted
+      ∙ ap (take member_limit) (drop_at charged _ member_limit long)
+      ∙ take_at (calls r member loss charged) _ member_limit e
 
 -- 19 never comes -------------------------------------------------------------------
 

@@ -1,5 +1,6 @@
 -- The laws that the proofs of `waterfall` and the crates above cite.
 pub mod Default
+pub mod Growth
 pub mod Given
 pub mod Pooled
 pub mod Answer

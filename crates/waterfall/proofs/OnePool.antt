@@ -50,7 +50,7 @@ module _ (r : Register) (g : GivenBack r) (member : ℕ) (pools : Pools) (one : 
   only : losses_of pools ≡ loss ∷ []
   only = ap (λ (n : ℕ). map (loss_of pools) (range_with_len 0 n)) one
 
-  together : loss_together pools ≡ loss
+  pub together : loss_together pools ≡ loss
   together = ap total only ∙ omega arith
 
   -- where 11 to 15 refuse nothing, the charges are those by rank

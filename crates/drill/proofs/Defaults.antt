@@ -2,11 +2,10 @@
 use Prim.Native.Nat.{ℕ, ◌+◌, ◌<◌}
 use mathlib.Core.Path.{◌≡◌, refl, ap, sym, ◌∙◌}
 use mathlib.Core.Bool.{cond}
-use mathlib.Core.List.{List, ◌++◌, append_assoc}
+use mathlib.Core.List.{List, ◌++◌}
 use native.Mathlib.Omega.{arith}
 use borrow.Author.Tests.{eqb-false}
 use lib.ListN.{length, take, drop}
-use lib.Seq.{take_at, drop_at}
 use Rattle.std.specs.Prelude.{Option, Some, None, Ok, is_some}
 use Rattle.lists.specs.Checks.{check}
 use Rattle.lists.specs.Limits.{member_limit}
@@ -20,7 +19,7 @@ use Rattle.waterfall.specs.Default.{fallen_call, on_margin, on_contribution, cal
 use Rattle.waterfall.specs.Pools.{loss_together, pooled_charges, pooled_allocation, pooled_refusal, pooled_of, pooled_slip}
 use Rattle.admission.proofs.Admitted.{PoolsAdmitted, pools_admitted}
 use Rattle.waterfall.proofs.Default.{Layer4, placed, margin-gives, contribution-gives, tranche1-gives, tranche2-gives, charges-within, left2, left3, left4}
-use Rattle.waterfall.proofs.Default.{left5, left6}
+use Rattle.waterfall.proofs.Default.{left5, left6, charges_read, calls_read}
 use Rattle.figures.proofs.Figures.{same_member, other_member, replaced_at, figure-plus, figure-le, by-member}
 use Rattle.waterfall.proofs.Given.{given-settled, length-calls}
 use Rattle.drill.proofs.Order.{layer4, defaulter_known, settled-contribution, settled_other, defaulter_uncharged, empty1, empty2, empty3, empty4, empty5}
@@ -48,20 +47,15 @@ module _ (r : Register) (g : GivenBack r) (member : ℕ) (pools : Pools) (ranks 
   left = charged ++ calling ++ drop (member_limit + member_limit) slip
 
   -- the slip's numbers are the charges and the calls
-  parted : left ≡ charged ++ (calling ++ drop (member_limit + member_limit) slip)
-  unfolding left
-  parted = append_assoc charged calling (drop (member_limit + member_limit) slip)
-
   charges_on : take member_limit left ≡ charged
-  unfolding charged
-  charges_on = ap (take member_limit) parted ∙ take_at charged _ member_limit known4.long
+  unfolding left charged calling
+  charges_on = charges_read r member loss (pooled_charges r member pools ranks) slip known4.long
 
   calls_on : take member_limit (drop member_limit left) ≡ calling
-  unfolding charged calling
+  unfolding left charged calling
   calls_on =
-      ap (λ (xs : List ℕ). take member_limit (drop member_limit xs)) parted
-      ∙ ap (take member_limit) (drop_at charged _ member_limit known4.long)
-      ∙ take_at calling _ member_limit (length-calls r g member loss (pooled_charges r member pools ranks))
+      calls_read r member loss (pooled_charges r member pools ranks) slip known4.long
+      (length-calls r g member loss (pooled_charges r member pools ranks))
 
   event : Event
   event = seen (Default member pools) ranks (record

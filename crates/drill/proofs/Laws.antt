@@ -8,9 +8,9 @@ use Rattle.figures.specs.declared.Status.{Status}
 use Rattle.admission.specs.Admission.{pool_ranks}
 use Rattle.admission.specs.declared.Pools.{Pools}
 use Rattle.waterfall.specs.Register.{Register, GivenBack}
-use Rattle.waterfall.specs.Reply.{layer1, layer2, layer3, layer4, layer5, layer6}
+use Rattle.waterfall.specs.Reply.{layer1, layer2, layer3, layer5}
 use Rattle.drill.specs.Drill.{Event}
-use Rattle.drill.specs.Counting.{accepted, defaults, is_close, loss_in, short_in, fallen_in, fallen_by, layer_in, layer_by, charge_on, call_on, paid_by}
+use Rattle.drill.specs.Counting.{accepted, defaults, is_close, loss_in, short_in, fallen_in, fallen_by, layer_in, charged_in, layer_by, charge_on, call_on, paid_by}
 use Rattle.drill.specs.Counting.{replenished_by}
 use Rattle.drill.specs.Statement.{InOrder}
 use Rattle.drill.specs.declared.DrillCall.TheVariants.{Default}
@@ -44,8 +44,7 @@ in_order r e member pools other full o =
 pub record StepLaws (r : Register) (e : Event) : Type 0 where
   pub given : GivenBack e.register
   pub cap_stays : e.register.cap ≡ r.cap
-  pub placed : layer_in layer1 e + layer_in layer2 e + layer_in layer3 e + layer_in layer4 e + layer_in layer5 e + layer_in layer6 e + short_in
-      e ≡ loss_in e + fallen_in e
+  pub placed : charged_in e + short_in e ≡ loss_in e + fallen_in e
   pub margin : (m : ℕ) → figure r.margin m ≡ figure e.register.margin m + layer_by layer1 m e
   pub contribution : (m : ℕ) → figure r.contribution m + replenished_by m e ≡ figure e.register.contribution m + layer_by layer2 m e + charge_on m e
   pub tranche1 : r.tranche1 ≡ e.register.tranche1 + layer_in layer3 e

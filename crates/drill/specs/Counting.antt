@@ -8,7 +8,7 @@ use Rattle.sheets.specs.Sheet.{record_count}
 use Rattle.waterfall.specs.Opening.{tranche1_of, tranche2_of, opened_of}
 use Rattle.figures.specs.Figures.{figure}
 use Rattle.waterfall.specs.Pools.{loss_together}
-use Rattle.waterfall.specs.Reply.{Layer, fallen_of, layer_of, short_of}
+use Rattle.waterfall.specs.Reply.{Layer, layer1, layer2, layer3, layer4, layer5, layer6, fallen_of, layer_of, short_of}
 use Rattle.waterfall.specs.Register.{Register}
 use Rattle.drill.specs.Drill.{Event}
 use Rattle.drill.specs.declared.DrillCall.{DrillCall}
@@ -117,6 +117,11 @@ fallen_by member e = cond (defaults e.call member) (fallen_of e.reply) 0
 -- "Charges are the six layer totals of accepted defaults."
 abbrev pub layer_in : Layer → Event → ℕ
 layer_in l e = layer_of l e.reply
+
+-- all of them
+abbrev pub charged_in : Event → ℕ
+charged_in e =
+    layer_in layer1 e + layer_in layer2 e + layer_in layer3 e + layer_in layer4 e + layer_in layer5 e + layer_in layer6 e
 
 -- a layer of the member's own default
 abbrev pub layer_by : Layer → ℕ → Event → ℕ

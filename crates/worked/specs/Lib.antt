@@ -1,5 +1,6 @@
--- Document 01's worked examples as one fact, the page of its first default, and defaults with several pools.
+-- Document 01's worked examples as one fact, the page of its first default, defaults with several pools, and a loss that is raised.
 pub mod Drills
 pub mod Worked
 pub mod Page
 pub mod Pools
+pub mod RaisedLoss

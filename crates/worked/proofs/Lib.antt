@@ -1,0 +1,2 @@
+-- A theorem about the worked examples.
+pub mod RaisedLoss

@@ -48,9 +48,10 @@ pub struct Runner {
     dir: PathBuf,
 }
 
-/// What a program printed, and what was wrong with its ending if anything was.
+/// What a program printed, what it said on standard error, and what was wrong with its ending if anything was.
 pub struct Ran {
     pub stdout: Vec<u8>,
+    pub stderr: Vec<u8>,
     pub fault: Option<String>,
 }
 
@@ -70,11 +71,6 @@ impl Runner {
         let path = self.path(name);
         fs::write(&path, bytes)?;
         Ok(path)
-    }
-
-    /// What the last program run said on standard error.
-    pub fn stderr(&self) -> io::Result<Vec<u8>> {
-        fs::read(self.path("stderr"))
     }
 
     /// A command with standard error kept in a file and standard output piped.
@@ -100,7 +96,12 @@ impl Runner {
                 (stdout.unwrap_or(Ok(Vec::new()))?, Some(hang))
             }
         };
-        Ok(Ran { stdout, fault })
+        let stderr = fs::read(self.path("stderr"))?;
+        Ok(Ran {
+            stdout,
+            stderr,
+            fault,
+        })
     }
 }
 

@@ -1,19 +1,19 @@
-//! Random drills and sizings: the programs under test against the rules written here.
+//! Random drills, pairs of them and sizings: the programs under test against the rules written here.
 
 use crate::child::{Ran, Runner, TempDir};
 use crate::coverage::Coverage;
 use crate::engine::RECORD;
-use crate::generate::{drill, sizing, DrillCase, SizingCase};
-use crate::ledger;
+use crate::generate::{drill, raised, sizing, DrillCase, RaisedCase, SizingCase};
+use crate::ledger::{self, Tally};
 use crate::rng::Rng;
-use crate::text::{run_drill, run_sizing};
+use crate::text::run_sizing;
 use std::ffi::OsString;
 use std::io;
 use std::path::{Path, PathBuf};
 use std::sync::atomic::{AtomicBool, AtomicU64, Ordering};
 use std::sync::Mutex;
 
-/// A run of so many drills or sizings and more comes to all that their pools and groups can come to.
+/// A run of so many drills, sizings or pairs and more comes to all that these can come to.
 const MANY: u64 = 1_000;
 
 pub struct Options {
@@ -21,14 +21,17 @@ pub struct Options {
     pub seed: u64,
     pub drills: u64,
     pub sizings: u64,
+    pub pairs: u64,
     pub jobs: u64,
     pub only: Option<u64>,
 }
 
-/// A case: numbers 1 to `drills` are drills, those after them sizings.
+/// A case: numbers 1 to `drills` are drills, those after them sizings, and then pairs of drills whose
+/// last default has a smaller and a larger loss.
 enum Case {
     Drill(DrillCase),
     Sizing(SizingCase),
+    Pair(RaisedCase),
 }
 
 impl Case {
@@ -36,33 +39,34 @@ impl Case {
         let seed = Rng::case_seed(options.seed, number);
         if number <= options.drills {
             Case::Drill(drill(seed))
-        } else {
+        } else if number - options.drills <= options.sizings {
             Case::Sizing(sizing(seed))
+        } else {
+            Case::Pair(raised(seed))
         }
     }
 
-    fn expected(&self) -> Vec<u8> {
+    /// What each of its runs is to print.
+    fn expected(&self) -> Vec<Vec<u8>> {
         match self {
-            Case::Drill(case) => {
-                let mut out = Vec::new();
-                run_drill(&case.sheet, case.own, &case.calls[..], &mut out)
-                    .expect("memory takes all");
-                out
-            }
+            Case::Drill(case) => vec![case.expected()],
             Case::Sizing(case) => {
-                run_sizing(&case.stress, &case.shares, case.prevailing, case.available)
+                let (stress, shares) = (&case.stress, &case.shares);
+                vec![run_sizing(stress, shares, case.prevailing, case.available)]
             }
+            Case::Pair(case) => case.drills().map(|drill| drill.expected()).into(),
         }
     }
 
-    fn run(&self, runner: &Runner) -> io::Result<Ran> {
+    fn run(&self, runner: &Runner) -> io::Result<Vec<Ran>> {
         let sheet = |name: &str, bytes: &[u8]| runner.write(name, bytes).map(OsString::from);
+        let run_drill = |case: &DrillCase| {
+            let register = sheet("register.sheet", &case.sheet)?;
+            let arguments = [register, case.own.to_string().into()];
+            runner.run("run_drill", &arguments, &case.calls)
+        };
         match self {
-            Case::Drill(case) => {
-                let register = sheet("register.sheet", &case.sheet)?;
-                let arguments = [register, case.own.to_string().into()];
-                runner.run("run_drill", &arguments, &case.calls)
-            }
+            Case::Drill(case) => Ok(vec![run_drill(case)?]),
             Case::Sizing(case) => {
                 let arguments = [
                     sheet("stress.sheet", &case.stress)?,
@@ -70,48 +74,74 @@ impl Case {
                     case.prevailing.to_string().into(),
                     case.available.to_string().into(),
                 ];
-                runner.run("run_sizing", &arguments, &[])
+                Ok(vec![runner.run("run_sizing", &arguments, &[])?])
+            }
+            Case::Pair(case) => case.drills().iter().map(run_drill).collect(),
+        }
+    }
+
+    /// What the expected answer of a drill or a sizing reached.
+    fn reach(&self, expected: &[Vec<u8>], coverage: &mut Coverage) {
+        let expected = String::from_utf8_lossy(&expected[0]);
+        match self {
+            Case::Drill(_) => coverage.add_output(&expected),
+            Case::Sizing(case) => {
+                coverage.add_output(&expected);
+                coverage.add_groups(case, &expected);
+            }
+            Case::Pair(_) => {}
+        }
+    }
+
+    /// Statement 3 on each drill, and request 6 on a pair of them, counted from what the program under test printed.
+    fn count(&self, ran: &[Ran], coverage: &mut Coverage) -> Result<(), String> {
+        match self {
+            Case::Drill(case) => coverage.add_tally(statement3(case, printed(&ran[0])?)?),
+            Case::Sizing(_) => {}
+            Case::Pair(case) => {
+                let texts = [printed(&ran[0])?, printed(&ran[1])?];
+                for (drill, text) in case.drills().iter().zip(texts) {
+                    statement3(drill, text)?;
+                }
+                let tally = ledger::count_raised(case, texts);
+                coverage.add_raised(tally.map_err(|why| format!("request 6: {why}"))?);
             }
         }
-    }
-
-    /// What the expected answer reached.
-    fn reach(&self, expected: &[u8], coverage: &mut Coverage) {
-        let expected = String::from_utf8_lossy(expected);
-        coverage.add_output(&expected);
-        if let Case::Sizing(case) = self {
-            coverage.add_groups(case, &expected);
-        }
-    }
-
-    /// Statement 3, counted from what the program under test printed.
-    fn count(&self, printed: &[u8], coverage: &mut Coverage) -> Result<(), String> {
-        let Case::Drill(case) = self else {
-            return Ok(());
-        };
-        let printed = std::str::from_utf8(printed).map_err(|e| e.to_string())?;
-        ledger::unaltered(printed)?;
-        coverage.add_tally(ledger::count(case, printed)?);
         Ok(())
     }
 
-    fn describe(&self) -> String {
+    /// How each of its runs is made.
+    fn describe(&self) -> Vec<String> {
         match self {
-            Case::Drill(case) => format!(
-                "run_drill REGISTER {}\nREGISTER:\n{}calls:\n{}\n",
-                case.own,
-                hexadecimal(&case.sheet),
-                case.calls.escape_ascii().to_string().replace("\\n", "\n")
-            ),
-            Case::Sizing(case) => format!(
+            Case::Drill(case) => vec![describe_drill(case)],
+            Case::Pair(case) => case.drills().iter().map(describe_drill).collect(),
+            Case::Sizing(case) => vec![format!(
                 "run_sizing STRESS SHARES {} {}\nSTRESS:\n{}SHARES:\n{}",
                 case.prevailing,
                 case.available,
                 hexadecimal(&case.stress),
                 hexadecimal(&case.shares)
-            ),
+            )],
         }
     }
+}
+
+fn printed(ran: &Ran) -> Result<&str, String> {
+    std::str::from_utf8(&ran.stdout).map_err(|e| e.to_string())
+}
+
+fn statement3(case: &DrillCase, printed: &str) -> Result<Tally, String> {
+    let counted = ledger::unaltered(printed).and_then(|()| ledger::count(case, printed));
+    counted.map_err(|why| format!("statement 3: {why}"))
+}
+
+fn describe_drill(case: &DrillCase) -> String {
+    format!(
+        "run_drill REGISTER {}\nREGISTER:\n{}calls:\n{}\n",
+        case.own,
+        hexadecimal(&case.sheet),
+        case.calls.escape_ascii().to_string().replace("\\n", "\n")
+    )
 }
 
 fn hexadecimal(sheet: &[u8]) -> String {
@@ -138,7 +168,7 @@ struct Run<'a> {
 /// Runs the whole comparison; false where anything differed.
 pub fn compare(options: &Options) -> io::Result<bool> {
     println!("seed {}", options.seed);
-    let all = options.drills + options.sizings;
+    let all = options.drills + options.sizings + options.pairs;
     let run = Run {
         options,
         next: AtomicU64::new(options.only.unwrap_or(1)),
@@ -172,6 +202,9 @@ pub fn compare(options: &Options) -> io::Result<bool> {
     if options.only.is_none() && options.sizings >= MANY {
         unreached.extend(coverage.unreached_groups());
     }
+    if options.only.is_none() && options.pairs >= MANY {
+        unreached.extend(coverage.unreached_raised());
+    }
     if !unreached.is_empty() {
         println!("never reached: {}", unreached.join(", "));
         return Ok(false);
@@ -179,8 +212,8 @@ pub fn compare(options: &Options) -> io::Result<bool> {
     match options.only {
         Some(number) => println!("compared case {number}, no difference"),
         None => println!(
-            "compared {} drills, {} sizings, no difference",
-            options.drills, options.sizings
+            "compared {} drills, {} sizings, {} pairs of drills, no difference",
+            options.drills, options.sizings, options.pairs
         ),
     }
     Ok(true)
@@ -210,7 +243,7 @@ fn work(run: &Run, bin: &Path, temp: &TempDir, job: u64) -> io::Result<()> {
     Ok(())
 }
 
-/// Runs one case; a report where it differs or statement 3 does not hold.
+/// Runs one case; a report where it differs, or what is counted does not hold.
 fn try_case(
     options: &Options,
     number: u64,
@@ -221,26 +254,30 @@ fn try_case(
     let expected = case.expected();
     case.reach(&expected, coverage);
     let ran = case.run(runner)?;
-    let counted = case.count(&ran.stdout, coverage);
-    if ran.fault.is_none() && ran.stdout == expected && counted.is_ok() {
+    let counted = case.count(&ran, coverage);
+    let good = |ran: &Ran, expected: &Vec<u8>| ran.fault.is_none() && ran.stdout == *expected;
+    if ran.iter().zip(&expected).all(|(r, e)| good(r, e)) && counted.is_ok() {
         return Ok(None);
     }
     let mut report = format!(
-        "case {number} with seed {}\nagain: compare --seed {} --drills {} --sizings {} --only {number}\n",
+        "case {number} with seed {}\nagain: compare --seed {} --drills {} --sizings {} --pairs {} --only {number}\n",
         Rng::case_seed(options.seed, number),
         options.seed,
         options.drills,
-        options.sizings
+        options.sizings,
+        options.pairs
     );
-    report += &case.describe();
-    report += &difference(&expected, &ran.stdout);
-    report += &format!("stderr:\n{}\n", runner.stderr()?.escape_ascii());
-    match counted {
-        Ok(()) => report += "statement 3: holds in what is printed\n",
-        Err(why) => report += &format!("statement 3: {why}\n"),
+    for ((made, expected), ran) in case.describe().iter().zip(&expected).zip(&ran) {
+        report += made;
+        report += &difference(expected, &ran.stdout);
+        report += &format!("stderr:\n{}\n", ran.stderr.escape_ascii());
+        if let Some(fault) = &ran.fault {
+            report += &format!("the program {fault}\n");
+        }
     }
-    if let Some(fault) = ran.fault {
-        report += &format!("the program {fault}\n");
+    match counted {
+        Ok(()) => report += "what is counted holds in what is printed\n",
+        Err(why) => report += &format!("{why}\n"),
     }
     Ok(Some(report))
 }

@@ -2,7 +2,7 @@
 
 use crate::engine::{cover, MAX_AMOUNT, MOST_JUNIOR, RECORD};
 use crate::generate::SizingCase;
-use crate::ledger::Tally;
+use crate::ledger::{RaisedTally, Tally};
 
 #[derive(Clone, Default)]
 pub struct Coverage {
@@ -18,6 +18,7 @@ pub struct Coverage {
     pages: u64,
     no_pages: u64,
     tally: Tally,
+    raised: RaisedTally,
 }
 
 /// What groups did in sizings.
@@ -112,6 +113,17 @@ impl Coverage {
         self.tally.later_rank += tally.later_rank;
     }
 
+    pub fn add_raised(&mut self, tally: RaisedTally) {
+        self.raised.pairs += tally.pairs;
+        self.raised.equal += tally.equal;
+        self.raised.by_one += tally.by_one;
+        self.raised.fallen += tally.fallen;
+        add(&mut self.raised.layers, tally.layers);
+        self.raised.shorter += tally.shorter;
+        add(&mut self.raised.more, tally.more);
+        add(&mut self.raised.same, tally.same);
+    }
+
     pub fn merge(&mut self, other: &Coverage) {
         add(&mut self.refusals, other.refusals);
         add(&mut self.layers, other.layers);
@@ -125,6 +137,7 @@ impl Coverage {
         self.pages += other.pages;
         self.no_pages += other.no_pages;
         self.add_tally(other.tally);
+        self.add_raised(other.raised);
     }
 
     /// What many drills come to in their pools and splits, and these never did.
@@ -165,6 +178,33 @@ impl Coverage {
             ("a C above two members' losses", self.groups.beyond_two),
             ("refusal 4 for a group", self.groups.outside),
             ("refusal 8 of a record with a group", self.groups.sixth),
+        ])
+    }
+
+    /// What many pairs come to in their two losses, and these never did.
+    pub fn unreached_raised(&self) -> Vec<&'static str> {
+        let r = &self.raised;
+        never(&[
+            ("two equal losses", r.equal),
+            ("losses one thousand apart", r.by_one),
+            ("two losses beside a fallen call", r.fallen),
+            ("a larger loss that draws more on layer 1", r.layers[0]),
+            ("a larger loss that draws more on layer 2", r.layers[1]),
+            ("a larger loss that draws more on layer 3", r.layers[2]),
+            ("a larger loss that draws more on layer 4", r.layers[3]),
+            ("a larger loss that draws more on layer 5", r.layers[4]),
+            ("a larger loss that draws more on layer 6", r.layers[5]),
+            ("a larger loss that leaves more short", r.shorter),
+            ("a member charged more", r.more[0]),
+            ("a member called for more", r.more[1]),
+            (
+                "a member charged as much by a layer 4 that gives more",
+                r.same[0],
+            ),
+            (
+                "a member called for as much by a layer 6 that gives more",
+                r.same[1],
+            ),
         ])
     }
 
@@ -234,6 +274,19 @@ impl Coverage {
             "refused for a later pool alone, 13: {}; 15: {}",
             t.later_loss, t.later_rank
         );
+        let r = &self.raised;
+        println!(
+            "pairs of defaults, both accepted: {}; with equal losses: {}, one thousand apart: {}, beside a fallen call: {}",
+            r.pairs, r.equal, r.by_one, r.fallen
+        );
+        println!(
+            "of them by layer, where the larger loss drew more: {:?}; where it left more short: {}",
+            r.layers, r.shorter
+        );
+        println!(
+            "of them where a member was charged more: {}, called for more: {}; as much, though its layer gave more: {}, {}",
+            r.more[0], r.more[1], r.same[0], r.same[1]
+        );
         println!("unreadable lines: {}", self.unreadable);
         println!("pages: {}, no page: {}", self.pages, self.no_pages);
     }
@@ -270,18 +323,16 @@ fn remark(number: usize) -> &'static str {
 #[cfg(test)]
 mod tests {
     use super::*;
-    use crate::generate::{drill, sizing, DrillCase};
-    use crate::ledger::count;
-    use crate::text::{run_drill, run_sizing};
+    use crate::generate::{drill, raised, sizing, DrillCase};
+    use crate::ledger::{count, count_raised};
+    use crate::text::run_sizing;
 
     fn drilled(seed: u64) -> String {
         printed(&drill(seed))
     }
 
     fn printed(case: &DrillCase) -> String {
-        let mut out = Vec::new();
-        run_drill(&case.sheet, case.own, &case.calls[..], &mut out).unwrap();
-        String::from_utf8(out).unwrap()
+        String::from_utf8(case.expected()).unwrap()
     }
 
     #[test]
@@ -289,14 +340,17 @@ mod tests {
         let mut coverage = Coverage::default();
         for seed in 0..1_000 {
             let case = drill(seed);
-            let printed = printed(&case);
-            coverage.add_output(&printed);
-            coverage.add_tally(count(&case, &printed).unwrap());
+            let text = printed(&case);
+            coverage.add_output(&text);
+            coverage.add_tally(count(&case, &text).unwrap());
             let case = sizing(seed);
             let out = run_sizing(&case.stress, &case.shares, case.prevailing, case.available);
-            let printed = String::from_utf8(out).unwrap();
-            coverage.add_output(&printed);
-            coverage.add_groups(&case, &printed);
+            let text = String::from_utf8(out).unwrap();
+            coverage.add_output(&text);
+            coverage.add_groups(&case, &text);
+            let case = raised(seed);
+            let [low, high] = case.drills().map(|drill| printed(&drill));
+            coverage.add_raised(count_raised(&case, [&low, &high]).unwrap());
         }
         for number in 1..=22 {
             let reached = coverage.refusals[number] > 0;
@@ -318,6 +372,8 @@ mod tests {
         assert!(tally.just_sums > 10 && tally.alone > 100 && tally.all_called > 100);
         assert_eq!(coverage.unreached_groups(), [""; 0]);
         assert!(coverage.groups.raised > 100 && coverage.groups.beyond_two > 5);
+        assert_eq!(coverage.unreached_raised(), [""; 0]);
+        assert!(coverage.raised.pairs > 500 && coverage.raised.fallen > 20);
     }
 
     #[test]
@@ -325,6 +381,7 @@ mod tests {
         let mut coverage = Coverage::default();
         assert_eq!(coverage.unreached().len(), 16);
         assert_eq!(coverage.unreached_groups().len(), 5);
+        assert_eq!(coverage.unreached_raised().len(), 14);
         coverage.add_output("refused 21\nrefused 22\n");
         coverage.add_tally(Tally {
             pools: [1; 5],

@@ -63,7 +63,7 @@ fn attempt(trial: &Trial, runner: &Runner) -> io::Result<Option<String>> {
     if ran.stdout != expected {
         return Ok(Some(difference(&expected, &ran.stdout)));
     }
-    let stderr = String::from_utf8_lossy(&runner.stderr()?).into_owned();
+    let stderr = String::from_utf8_lossy(&ran.stderr).into_owned();
     if !said(&ending, &stderr) {
         return Ok(Some(format!("{ending:?}, but stderr is {stderr:?}")));
     }

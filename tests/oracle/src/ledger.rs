@@ -1,4 +1,4 @@
-//! Counts statement 3 on a drill, from what was handed in and what was printed.
+//! Counts statement 3 on a drill, and request 6 on two of them, from what was handed in and what was printed.
 //!
 //! Nothing here asks the engine: sums come from the calls and the printed answers,
 //! and what is held or outstanding from the printed registers. What each pool charges is not
@@ -7,9 +7,11 @@
 
 mod page;
 mod pools;
+mod raised;
 
 use self::page::read_page;
 use self::pools::{ByMember, Charged, Found};
+pub use self::raised::{count_raised, RaisedTally};
 use crate::engine::{Call, MAX_SUM, MEMBERS, MOST_JUNIOR, RECORD};
 use crate::generate::DrillCase;
 use crate::text::{read_line, Lines, Reading};
@@ -95,6 +97,10 @@ struct Ledger {
     unseen: bool,
     tally: Tally,
 }
+
+/// How an accepted default is printed, and then a member that is charged or called.
+const DEFAULT_ANSWER: &str = "accepted fallen # layers # # # # # # short #";
+const MEMBER_LINE: &str = "member # charged # called #";
 
 /// Wide enough for whatever a faulty program prints.
 type Sum = u128;
@@ -337,8 +343,7 @@ impl Ledger {
     ) -> Counted {
         pools::within_limits(losses)?;
         let by_rule = pools::charge(&self.found(member)?, losses, &ranks);
-        let pattern = "accepted fallen # layers # # # # # # short #";
-        let [fallen, figures @ ..] = printed.take::<8>(pattern)?;
+        let [fallen, figures @ ..] = printed.take::<8>(DEFAULT_ANSWER)?;
         self.latest = Some(figures);
         let [layers @ .., short] = figures;
         let layers: [Sum; 6] = layers;
@@ -397,7 +402,7 @@ impl Ledger {
     fn slip(&mut self, layers: &[Sum; 6], printed: &mut Printed) -> Counted<ByMember> {
         let (mut charges, mut calls) = (0, 0);
         let mut charged = ByMember::new();
-        while let Some([member, charge, call]) = printed.take_if("member # charged # called #") {
+        while let Some([member, charge, call]) = printed.take_if(MEMBER_LINE) {
             let member = member as u64;
             let account = self.account(member)?;
             account.contribution_charged += charge;
@@ -584,13 +589,10 @@ mod tests {
     use super::*;
     use crate::engine::PAGE_BYTES;
     use crate::generate::{drill, example_register, member_record};
-    use crate::text::run_drill;
     use std::ops::Range;
 
     fn printed(case: &DrillCase) -> String {
-        let mut out = Vec::new();
-        run_drill(&case.sheet, case.own, &case.calls[..], &mut out).unwrap();
-        String::from_utf8(out).unwrap()
+        String::from_utf8(case.expected()).unwrap()
     }
 
     fn example() -> DrillCase {

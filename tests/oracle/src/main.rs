@@ -25,7 +25,7 @@ const USAGE: &str = "usage: oracle run_drill REGISTER G
        oracle run_sizing STRESS SHARES P V
        oracle review C A
        oracle make_sheet KIND
-       oracle compare --bin DIR --seed S --drills N --sizings M [--jobs J] [--only K]
+       oracle compare --bin DIR --seed S --drills N --sizings M --pairs P [--jobs J] [--only K]
        oracle damaged --bin DIR --seed S
        oracle bench CASE REPS [STRESS SHARES]
        oracle bench-sheets DIR
@@ -107,6 +107,7 @@ fn compare_options(arguments: &[OsString]) -> Option<compare::Options> {
         seed: flags.number("--seed", None)?,
         drills: flags.number("--drills", None)?,
         sizings: flags.number("--sizings", None)?,
+        pairs: flags.number("--pairs", None)?,
         jobs: flags.number("--jobs", Some(2))?.max(1),
         only: Some(flags.number("--only", Some(0))?).filter(|&number| number > 0),
     };

@@ -2,7 +2,7 @@
 
 use super::damage::damage_member_sheet;
 use super::sheets::register_sheet;
-use super::DrillCase;
+use super::{DrillCase, RaisedCase};
 use crate::engine::{Places, Register, MAX_SUM, MISSING_RANK, MOST_JUNIOR};
 use crate::rng::Rng;
 use crate::text::{Console, Line};
@@ -124,6 +124,27 @@ pub fn drill(seed: u64) -> DrillCase {
     }
 }
 
+/// Calls, and then a default of one pool with a smaller and with a larger loss.
+pub fn raised(seed: u64) -> RaisedCase {
+    let mut rng = Rng::new(seed);
+    let sheet = register_sheet(&mut rng);
+    let own = own_contribution(&mut rng);
+    let mut maker = Maker::new(rng, &sheet, own);
+    let temper = maker.rng.pick(&TEMPERS);
+    let most = maker.rng.pick(&[0, 3, 9, 30]);
+    maker.steps(&temper, most);
+    maker.say(vec!["register".into()]);
+    let member = maker.defaulter();
+    RaisedCase {
+        sheet,
+        own,
+        member,
+        losses: maker.two_losses(member),
+        ranks: maker.ranks(member, false).join(" "),
+        calls: maker.calls,
+    }
+}
+
 fn own_contribution(rng: &mut Rng) -> u64 {
     match rng.weighted(&[10, 10, 20, 40, 8, 6, 2, 1]) {
         0 => 0,
@@ -174,8 +195,17 @@ impl Maker {
             _ => 30,
         };
         self.perhaps_page(10);
+        self.steps(&temper, most);
+        self.say(vec!["register".into()]);
+        self.perhaps_page(10);
+        if self.rng.chance(20) {
+            self.calls.pop(); // the last line may lack its newline
+        }
+    }
+
+    fn steps(&mut self, temper: &[u64], most: u64) {
         for _ in 0..self.rng.range(0, most) {
-            match STEPS[self.rng.weighted(&temper)] {
+            match STEPS[self.rng.weighted(temper)] {
                 Step::Default => self.declare(),
                 Step::Payment => self.pay(),
                 Step::Replenishment => self.replenish(),
@@ -187,11 +217,6 @@ impl Maker {
                 Step::Show => self.say(vec!["register".into()]),
                 Step::Page => self.say(vec!["page".into()]),
             }
-        }
-        self.say(vec!["register".into()]);
-        self.perhaps_page(10);
-        if self.rng.chance(20) {
-            self.calls.pop(); // the last line may lack its newline
         }
     }
 
@@ -372,6 +397,22 @@ impl Maker {
             return self.member();
         }
         self.rng.pick(&owing) as u64 + 1
+    }
+
+    /// Two losses, the larger behind: alike, a little apart, or any.
+    fn two_losses(&mut self, member: u64) -> [u64; 2] {
+        let Ok(place) = self.register().live_place(member) else {
+            return [self.rng.below(1_000), 1_000];
+        };
+        let loss = self.loss(place);
+        let mut losses = match self.rng.weighted(&[10, 20, 20, 50]) {
+            0 => [loss, loss],
+            1 => [loss, loss.saturating_add(1)],
+            2 => [loss, loss.saturating_add(self.rng.below(100))],
+            _ => [loss, self.loss(place)],
+        };
+        losses.sort_unstable();
+        losses
     }
 
     /// The losses of one or several pools.

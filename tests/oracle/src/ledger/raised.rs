@@ -1,0 +1,318 @@
+//! Counts document 02's request 6, "A larger loss, member by member", from what was printed of two
+//! drills that differ in the loss of their last default alone.
+
+use super::{ensure, Counted, Printed, Sum, DEFAULT_ANSWER, MEMBER_LINE};
+use crate::generate::RaisedCase;
+use std::collections::BTreeMap;
+
+/// How many pairs of defaults were both accepted, and what the larger loss did in them.
+#[derive(Clone, Copy, Debug, Default)]
+pub struct RaisedTally {
+    pub pairs: u64,
+    /// Two equal losses.
+    pub equal: u64,
+    /// Losses one thousand apart.
+    pub by_one: u64,
+    /// Where a call had fallen.
+    pub fallen: u64,
+    /// By the layer, where it gave more.
+    pub layers: [u64; 6],
+    pub shorter: u64,
+    /// Where a member that was charged, or called, was so for more.
+    pub more: [u64; 2],
+    /// Where a member was charged, or called, for as much as before, though its layer gave more.
+    pub same: [u64; 2],
+}
+
+/// What a default printed: the members' layer 4 charges and calls by number.
+struct Answer {
+    fallen: Sum,
+    layers: [Sum; 6],
+    short: Sum,
+    members: BTreeMap<Sum, [Sum; 2]>,
+}
+
+/// Counts one pair, of which statement 3 was counted; an error says what does not hold.
+pub fn count_raised(case: &RaisedCase, printed: [&str; 2]) -> Counted<RaisedTally> {
+    let [(before, low), (still, high)] = [last_default(printed[0])?, last_default(printed[1])?];
+    ensure(before == still, || {
+        "the drills differ before their last default".into()
+    })?;
+    let (Some(low), Some(high)) = (read_answer(low)?, read_answer(high)?) else {
+        return Ok(RaisedTally::default());
+    };
+    let apart = case.losses[1] - case.losses[0];
+    at_least_as_much(&low, &high)?;
+    let (less, most) = (low.placed(), high.placed());
+    ensure(most == less + apart as Sum, || {
+        format!("charges and shortfall are {less} and {most}, the losses {apart} apart")
+    })?;
+    Ok(tally(apart, &low, &high))
+}
+
+fn at_least_as_much(low: &Answer, high: &Answer) -> Counted {
+    let not_less = |what: &str, low: Sum, high: Sum| {
+        ensure(low <= high, || {
+            format!("{what} is {low}, and {high} with the larger loss")
+        })
+    };
+    for (layer, (&low, &high)) in low.layers.iter().zip(&high.layers).enumerate() {
+        not_less(&format!("layer {}", layer + 1), low, high)?;
+    }
+    for (&member, &[charge, call]) in &low.members {
+        let [charged, called] = high.of(member);
+        not_less(&format!("member {member}'s charge"), charge, charged)?;
+        not_less(&format!("member {member}'s call"), call, called)?;
+    }
+    not_less("the shortfall", low.short, high.short)
+}
+
+fn tally(apart: u64, low: &Answer, high: &Answer) -> RaisedTally {
+    let grew = |layer: usize| low.layers[layer] < high.layers[layer];
+    let any = |kind: usize, holds: fn(&Sum, &Sum) -> bool| {
+        let mut members = low.members.iter();
+        members.any(|(&m, given)| given[kind] > 0 && holds(&given[kind], &high.of(m)[kind]))
+    };
+    RaisedTally {
+        pairs: 1,
+        equal: (apart == 0) as u64,
+        by_one: (apart == 1) as u64,
+        fallen: (low.fallen > 0) as u64,
+        layers: [0, 1, 2, 3, 4, 5].map(|layer| grew(layer) as u64),
+        shorter: (low.short < high.short) as u64,
+        more: [0, 1].map(|kind| any(kind, Sum::lt) as u64),
+        same: [(0, 3), (1, 5)].map(|(kind, layer)| (grew(layer) && any(kind, Sum::eq)) as u64),
+    }
+}
+
+impl Answer {
+    fn of(&self, member: Sum) -> [Sum; 2] {
+        self.members.get(&member).copied().unwrap_or_default()
+    }
+
+    /// All charges and the shortfall.
+    fn placed(&self) -> Sum {
+        self.layers.iter().sum::<Sum>() + self.short
+    }
+}
+
+/// What stands before the answer to a drill's last default, and the answer, which a register follows.
+fn last_default(printed: &str) -> Counted<(&str, &str)> {
+    let end = printed
+        .rfind("\nregister ")
+        .ok_or("no register at the end")?;
+    // members are printed behind two spaces, and the answer before them is not
+    let mut starts = printed[..end].rmatch_indices('\n').map(|(at, _)| at + 1);
+    let start = starts
+        .find(|&at| !printed[at..].starts_with("  "))
+        .ok_or("no answer is printed")?;
+    Ok((&printed[..start], &printed[start..end]))
+}
+
+/// The answer, if the default was accepted.
+fn read_answer(text: &str) -> Counted<Option<Answer>> {
+    let mut printed = Printed(text.lines().peekable());
+    if printed.take_if::<1>("refused #").is_some() {
+        return Ok(None);
+    }
+    let [fallen, layers @ .., short] = printed.take::<8>(DEFAULT_ANSWER)?;
+    let mut members = BTreeMap::new();
+    while let Some([member, given @ ..]) = printed.take_if::<3>(MEMBER_LINE) {
+        members.insert(member, given);
+    }
+    ensure(printed.0.next().is_none(), || "more is printed".into())?;
+    Ok(Some(Answer {
+        fallen,
+        layers,
+        short,
+        members,
+    }))
+}
+
+#[cfg(test)]
+mod tests {
+    use super::*;
+    use crate::generate::{example_register, raised};
+
+    fn printed(case: &RaisedCase) -> [String; 2] {
+        case.drills()
+            .map(|drill| String::from_utf8(drill.expected()).unwrap())
+    }
+
+    fn counted(case: &RaisedCase, [low, high]: &[String; 2]) -> Counted<RaisedTally> {
+        count_raised(case, [low, high])
+    }
+
+    fn tallied(case: &RaisedCase) -> RaisedTally {
+        counted(case, &printed(case)).unwrap()
+    }
+
+    /// Document 01's register, and its first default with these losses.
+    fn example(losses: [u64; 2]) -> RaisedCase {
+        RaisedCase {
+            sheet: example_register(),
+            own: 22_000,
+            calls: "page\nregister\n".into(),
+            member: 1,
+            ranks: "2:1 3:2 4:2".into(),
+            losses,
+        }
+    }
+
+    #[test]
+    fn random_pairs_hold() {
+        for seed in 0..500 {
+            let case = raised(seed);
+            let why = counted(&case, &printed(&case)).err();
+            assert_eq!(why, None, "seed {seed}");
+        }
+    }
+
+    #[test]
+    fn pairs_are_tallied() {
+        let t = tallied(&example([0, 83_200]));
+        assert_eq!((t.layers, t.shorter), ([1, 1, 1, 0, 0, 0], 0));
+        let t = tallied(&example([80_000, 100_000]));
+        assert_eq!((t.pairs, t.equal, t.by_one, t.fallen), (1, 0, 0, 0));
+        assert_eq!(t.layers, [0, 0, 1, 1, 0, 0]);
+        assert_eq!((t.more, t.same), ([0, 0], [0, 0]));
+        // of one thousand more member 4 gives all; further on member 3 is called for it
+        let t = tallied(&example([100_000, 100_001]));
+        assert_eq!((t.by_one, t.more, t.same), (1, [1, 0], [1, 0]));
+        let t = tallied(&example([160_000, 160_001]));
+        assert_eq!((t.layers[5], t.more, t.same), (1, [0, 1], [0, 1]));
+        let t = tallied(&example([152_000, 172_001]));
+        assert_eq!((t.layers, t.shorter), ([0, 0, 0, 0, 0, 1], 1));
+        let t = tallied(&example([143_200, 143_201]));
+        assert_eq!((t.layers, t.shorter), ([0, 0, 0, 0, 1, 0], 0));
+        let t = tallied(&example([172_000, 172_000]));
+        assert_eq!((t.equal, t.layers, t.shorter), (1, [0; 6], 0));
+    }
+
+    #[test]
+    fn a_fallen_call_is_tallied() {
+        let case = RaisedCase {
+            calls: "default 1 160000 2:1 3:2 4:2\nregister\n".into(),
+            member: 2,
+            ranks: "3:1 4:1".into(),
+            ..example([0, 5])
+        };
+        let t = tallied(&case);
+        assert_eq!((t.pairs, t.fallen, t.shorter), (1, 1, 1));
+    }
+
+    #[test]
+    fn refused_defaults_are_no_pair() {
+        assert_eq!(tallied(&example([0, 25_600_000_000])).pairs, 1);
+        assert_eq!(tallied(&example([0, 25_600_000_001])).pairs, 0);
+        let nobody = RaisedCase {
+            member: 5,
+            ..example([0, 1])
+        };
+        assert_eq!(tallied(&nobody).pairs, 0);
+    }
+
+    /// Changes the answer to the last default.
+    fn changed(printed: &str, from: &str, to: &str) -> String {
+        let (before, answer) = last_default(printed).unwrap();
+        assert!(answer.contains(from), "{answer}");
+        let behind = &printed[before.len() + answer.len()..];
+        [before, &answer.replacen(from, to, 1), behind].concat()
+    }
+
+    /// With either loss all six layers and all members give all they have, and a thousand is short.
+    #[test]
+    fn every_number_that_falls_is_seen() {
+        let case = example([172_001; 2]);
+        let [low, high] = printed(&case);
+        let changes = [
+            (
+                "layers 50000",
+                "layers 49999",
+                "layer 1 is 50000, and 49999",
+            ),
+            (" 20000 132", " 19999 132", "layer 2 is 20000, and 19999"),
+            ("13200", "13199", "layer 3 is 13200, and 13199"),
+            ("60000", "59999", "layer 4 is 60000, and 59999"),
+            ("8800", "8799", "layer 5 is 8800, and 8799"),
+            ("20000 short", "19999 short", "layer 6 is 20000, and 19999"),
+            ("short 1", "short 0", "the shortfall is 1, and 0"),
+            (
+                "charged 30000",
+                "charged 29999",
+                "member 2's charge is 30000, and 29999",
+            ),
+            (
+                "called 15000",
+                "called 14999",
+                "member 2's call is 15000, and 14999",
+            ),
+            (
+                "\n  member 4 charged 20000 called 0",
+                "",
+                "member 4's charge is 20000, and 0",
+            ),
+        ];
+        for (from, to, why) in changes {
+            let pair = [low.clone(), changed(&high, from, to)];
+            let why = format!("{why} with the larger loss");
+            assert_eq!(counted(&case, &pair).err(), Some(why));
+        }
+        let pair = [changed(&low, "called 5000", "called 5001"), high.clone()];
+        assert!(counted(&case, &pair).is_err());
+        let pair = [low, changed(&high, "short 1", "short 2")];
+        assert_eq!(
+            counted(&case, &pair).unwrap_err(),
+            "charges and shortfall are 172001 and 172002, the losses 0 apart"
+        );
+    }
+
+    #[test]
+    fn another_difference_than_that_of_the_losses_is_seen() {
+        let case = example([100_000, 160_000]);
+        let [low, high] = printed(&case);
+        for (loss, fewer) in [(60_001, 60_000), (59_999, 60_000)] {
+            let case = example([100_000, 100_000 + loss]);
+            let pair = [low.clone(), high.clone()];
+            let why = format!(
+                "charges and shortfall are 100000 and {}, the losses {loss} apart",
+                100_000 + fewer
+            );
+            assert_eq!(counted(&case, &pair).err(), Some(why));
+        }
+        // all numbers are as large as they must be, and their sum is not
+        let pair = [low.clone(), changed(&high, "8000 short", "7999 short")];
+        assert!(counted(&case, &pair).is_err());
+        // and the two losses the other way about
+        assert!(counted(&case, &[high, low]).is_err());
+    }
+
+    #[test]
+    fn two_registers_are_seen() {
+        let case = example([100_000, 160_000]);
+        let [low, high] = printed(&case);
+        let other = high.replacen("tranche2 8800", "tranche2 8801", 1);
+        assert_ne!(high, other);
+        assert_eq!(
+            counted(&case, &[low, other]).unwrap_err(),
+            "the drills differ before their last default"
+        );
+    }
+
+    #[test]
+    fn an_answer_that_cannot_be_read_is_seen() {
+        let case = example([100_000; 2]);
+        let good = printed(&case);
+        let spoilt = [
+            String::new(),
+            "accepted fallen 0 layers 1 0 0 0 0 0 short 0\n".into(),
+            "\nregister tranche1 1 tranche2 0\n".into(),
+            changed(&good[0], "fallen", "falls"),
+            changed(&good[0], "member 3 charged", "member 3 charges"),
+        ];
+        for text in spoilt {
+            assert!(counted(&case, &[text.clone(), text]).is_err());
+        }
+        assert!(counted(&case, &good).is_ok());
+    }
+}

@@ -118,7 +118,7 @@ fallen_by member e = cond (defaults e.call member) (fallen_of e.reply) 0
 abbrev pub layer_in : Layer → Event → ℕ
 layer_in l e = layer_of l e.reply
 
--- all of them
+-- the six together
 abbrev pub charged_in : Event → ℕ
 charged_in e =
     layer_in layer1 e + layer_in layer2 e + layer_in layer3 e + layer_in layer4 e + layer_in layer5 e + layer_in layer6 e

@@ -1,6 +1,6 @@
 -- "The one with the larger loss then charges each layer and each member at least as much": what is seen of each of the two defaults is what the
 -- definitions for one pool give of its loss, and these grow with the loss.
-use Prim.Native.Nat.{ℕ, ◌+◌, ◌≤◌}
+use Prim.Native.Nat.{ℕ, ◌≤◌}
 use mathlib.Core.Path.{◌≡◌, refl, ap, sym, ◌∙◌}
 use mathlib.Core.Bool.{Bool, true, cond, ◌&&◌}
 use mathlib.Core.List.{List}
@@ -26,7 +26,7 @@ use Rattle.waterfall.proofs.Given.{length-standing, length-calls}
 use Rattle.waterfall.proofs.OnePool.{together, one_pool_as-before}
 use Rattle.waterfall.proofs.Growth.{each_layer-grows, member_charge-grows, member_call-grows, shortfall_grows}
 use Rattle.drill.specs.Drill.{Event, event_of}
-use Rattle.drill.specs.Counting.{accepted, loss_in, short_in, fallen_in, layer_in, charged_in, charge_on, call_on}
+use Rattle.drill.specs.Counting.{accepted, loss_in, short_in, fallen_in, layer_in, charge_on, call_on}
 use Rattle.drill.specs.declared.DrillCall.TheVariants.{Default}
 use Rattle.drill.proofs.Defaults.{default_laws}
 use Rattle.raised_loss.specs.RaisedLoss.{TwoDefaults, LargerLoss}
@@ -40,7 +40,6 @@ module _ (r : Register) (g : GivenBack r) (member : ℕ) (ranks : List ℕ) wher
     pub short_is : short_in e ≡ shortfall r member loss (charges r member loss ranks)
     pub charge_is : (m : ℕ) → charge_on m e ≡ figure (charges r member loss ranks) m
     pub call_is : (m : ℕ) → call_on m e ≡ figure (calls r member loss (charges r member loss ranks)) m
-    pub placed : charged_in e + short_in e ≡ loss_in e + fallen_in e
 
   module _ (pools : Pools) (one : pools.count ≡ 1) (slip : List ℕ) where
     abbrev loss : ℕ
@@ -90,7 +89,6 @@ module _ (r : Register) (g : GivenBack r) (member : ℕ) (ranks : List ℕ) wher
                 ap (λ (b : Bool). cond (b && true) (figure (take member_limit (drop member_limit event.slip)) m) 0) a
                 ∙ ap (λ (xs : List ℕ). figure (take member_limit (drop member_limit xs)) m) slip_is
                 ∙ ap (λ (xs : List ℕ). figure xs m) (calls_read r member loss charged slip long (length-calls r g member loss charged));
-            placed = (default_laws r g member pools ranks slip).placed;
           }
 
 -- "Teachers raise a loss in front of the class."
@@ -105,5 +103,13 @@ raise_a_loss r g member ranks low_pool high_pool slip other_slip two =
       each_charge = λ m. omega (arith, s.charge_is m, t.charge_is m, figure-le _ _ (member_charge-grows r member more ranks) m);
       each_call = λ m. omega (arith, s.call_is m, t.call_is m, figure-le _ _ (member_call-grows r member more ranks) m);
       shortfall = omega (arith, s.short_is, t.short_is, shortfall_grows r member more ranks);
-      difference = omega (arith, s.placed, t.placed, s.fallen_is, t.fallen_is, two.losses_rise);
+      difference =
+          omega (
+            arith,
+            (default_laws r g member low_pool ranks slip).placed,
+            (default_laws r g member high_pool ranks other_slip).placed,
+            s.fallen_is,
+            t.fallen_is,
+            two.losses_rise,
+          );
     }

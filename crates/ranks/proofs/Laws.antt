@@ -160,7 +160,7 @@ module _ (ws rs : List ℕ) where
         from_grows q {l = l - gives (suc q) l} {m = m - gives (suc q) m} (omega arith) k,
       )
 
-  -- nor all together, and no less is left; of any ranks, those too that nobody charges
+  -- nor are all together charged less, and no less is left: whatever the ranks, also where some are never charged
   totals_grow : (q : ℕ) {l m : ℕ} → l ≤ m → (total (from q l) ≤ total (from q m)) × (l - total (from q l) ≤ m - total (from q m))
   unfolding charges_from
   totals_grow zero h = (omega arith, omega arith)

@@ -75,6 +75,15 @@ share-rest w v l h = ⊎_elim (λ z. omega arith) (λ p. above p) (eq-zero-or-po
         let r : l - v ≤ w * l / (w + v) = rw e at q in
         omega arith
 
+-- a share of a larger sum is at least as large
+share_grows : {l m : ℕ} (w t : ℕ) → l ≤ m → share_of l w t ≤ share_of m w t
+unfolding share_of
+share_grows {l} {m} w t h =
+    ⊎_elim
+    (λ z. rw z (omega (arith, div-zero (w * l))))
+    (λ p. (le-div_iff_mul-le p).1 (omega (arith, div-mul-le_self (w * l) t, mul-le-mul_left w h)))
+    (eq-zero-or-pos t)
+
 -- a share grows by no more than the sum does
 share-more : (l d w t : ℕ) → w ≤ t → share_of (l + d) w t ≤ share_of l w t + d
 unfolding share_of
@@ -88,16 +97,7 @@ share-more l d w t h =
     omega arith)
     (eq-zero-or-pos t)
 
--- a share of a larger sum is at least as large
-share_grows : {l m : ℕ} (w t : ℕ) → l ≤ m → share_of l w t ≤ share_of m w t
-unfolding share_of
-share_grows {l} {m} w t h =
-    ⊎_elim
-    (λ z. rw z (omega (arith, div-zero (w * l))))
-    (λ p. (le-div_iff_mul-le p).1 (omega (arith, div-mul-le_self (w * l) t, mul-le-mul_left w h)))
-    (eq-zero-or-pos t)
-
--- so what it leaves is at least as large too
+-- so what it leaves of a larger sum is at least as large too
 share-leaves : {l m : ℕ} (w t : ℕ) → w ≤ t → l ≤ m → l - share_of l w t ≤ m - share_of m w t
 share-leaves {l} {m} w t b h =
     let e : l + (m - l) ≡ m = omega arith in

@@ -13,7 +13,7 @@ use std::path::{Path, PathBuf};
 use std::sync::atomic::{AtomicBool, AtomicU64, Ordering};
 use std::sync::Mutex;
 
-/// A run of so many drills, sizings or pairs and more comes to all that these can come to.
+/// A run of at least so many drills, sizings or pairs is to reach all that coverage lists for them.
 const MANY: u64 = 1_000;
 
 pub struct Options {
@@ -31,7 +31,7 @@ pub struct Options {
 enum Case {
     Drill(DrillCase),
     Sizing(SizingCase),
-    Pair(RaisedCase),
+    Pair(RaisedCase, [DrillCase; 2]),
 }
 
 impl Case {
@@ -42,7 +42,9 @@ impl Case {
         } else if number - options.drills <= options.sizings {
             Case::Sizing(sizing(seed))
         } else {
-            Case::Pair(raised(seed))
+            let case = raised(seed);
+            let drills = case.drills();
+            Case::Pair(case, drills)
         }
     }
 
@@ -54,7 +56,7 @@ impl Case {
                 let (stress, shares) = (&case.stress, &case.shares);
                 vec![run_sizing(stress, shares, case.prevailing, case.available)]
             }
-            Case::Pair(case) => case.drills().map(|drill| drill.expected()).into(),
+            Case::Pair(_, drills) => drills.iter().map(DrillCase::expected).collect(),
         }
     }
 
@@ -76,20 +78,19 @@ impl Case {
                 ];
                 Ok(vec![runner.run("run_sizing", &arguments, &[])?])
             }
-            Case::Pair(case) => case.drills().iter().map(run_drill).collect(),
+            Case::Pair(_, drills) => drills.iter().map(run_drill).collect(),
         }
     }
 
     /// What the expected answer of a drill or a sizing reached.
     fn reach(&self, expected: &[Vec<u8>], coverage: &mut Coverage) {
+        if let Case::Pair(..) = self {
+            return;
+        }
         let expected = String::from_utf8_lossy(&expected[0]);
-        match self {
-            Case::Drill(_) => coverage.add_output(&expected),
-            Case::Sizing(case) => {
-                coverage.add_output(&expected);
-                coverage.add_groups(case, &expected);
-            }
-            Case::Pair(_) => {}
+        coverage.add_output(&expected);
+        if let Case::Sizing(case) = self {
+            coverage.add_groups(case, &expected);
         }
     }
 
@@ -98,9 +99,9 @@ impl Case {
         match self {
             Case::Drill(case) => coverage.add_tally(statement3(case, printed(&ran[0])?)?),
             Case::Sizing(_) => {}
-            Case::Pair(case) => {
+            Case::Pair(case, drills) => {
                 let texts = [printed(&ran[0])?, printed(&ran[1])?];
-                for (drill, text) in case.drills().iter().zip(texts) {
+                for (drill, text) in drills.iter().zip(texts) {
                     statement3(drill, text)?;
                 }
                 let tally = ledger::count_raised(case, texts);
@@ -114,7 +115,7 @@ impl Case {
     fn describe(&self) -> Vec<String> {
         match self {
             Case::Drill(case) => vec![describe_drill(case)],
-            Case::Pair(case) => case.drills().iter().map(describe_drill).collect(),
+            Case::Pair(_, drills) => drills.iter().map(describe_drill).collect(),
             Case::Sizing(case) => vec![format!(
                 "run_sizing STRESS SHARES {} {}\nSTRESS:\n{}SHARES:\n{}",
                 case.prevailing,

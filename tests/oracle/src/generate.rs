@@ -1,4 +1,4 @@
-//! Random drills and sizings. A case depends on its own seed alone.
+//! Random drills, pairs of them and sizings. A case depends on its own seed alone.
 
 mod damage;
 mod drill;

@@ -98,8 +98,9 @@ struct Ledger {
     tally: Tally,
 }
 
-/// How an accepted default is printed, and then a member that is charged or called.
+/// How an accepted default is printed.
 const DEFAULT_ANSWER: &str = "accepted fallen # layers # # # # # # short #";
+/// And then each member that is charged or called.
 const MEMBER_LINE: &str = "member # charged # called #";
 
 /// Wide enough for whatever a faulty program prints.

@@ -1,4 +1,4 @@
-//! Random drills. The maker keeps a console of its own so that it can aim at boundaries.
+//! Random drills, and pairs that differ in their last loss. The maker keeps a console of its own so that it can aim at boundaries.
 
 use super::damage::damage_member_sheet;
 use super::sheets::register_sheet;

@@ -271,13 +271,11 @@ mod tests {
     fn another_difference_than_that_of_the_losses_is_seen() {
         let case = example([100_000, 160_000]);
         let [low, high] = printed(&case);
-        for (loss, fewer) in [(60_001, 60_000), (59_999, 60_000)] {
-            let case = example([100_000, 100_000 + loss]);
+        for apart in [60_001, 59_999] {
+            let case = example([100_000, 100_000 + apart]);
             let pair = [low.clone(), high.clone()];
-            let why = format!(
-                "charges and shortfall are 100000 and {}, the losses {loss} apart",
-                100_000 + fewer
-            );
+            let why =
+                format!("charges and shortfall are 100000 and 160000, the losses {apart} apart");
             assert_eq!(counted(&case, &pair).err(), Some(why));
         }
         // all numbers are as large as they must be, and their sum is not

@@ -1,41 +1,40 @@
--- Document 02, request 6: the losses that are raised for the class are two as the theorem speaks of them. The second default is lent a longer slip, with other
--- numbers in it.
-use mathlib.Core.Path.{refl}
+-- Document 02, request 6: the losses that are raised for the class are two as the theorem speaks of them, and it is applied to them.
+use Prim.Native.Nat.{ℕ}
+use mathlib.Core.Path.{◌≡◌, refl, ap, ◌∙◌}
+use mathlib.Core.Bool.{Bool, true, cond}
 use native.Mathlib.Omega.{arith}
-use lib.ListN.{replicate}
-use Rattle.lists.specs.Checks.{check}
-use Rattle.split.specs.Split.{share_of, split_of, exceeds}
-use Rattle.ranks.specs.Ranks.{charges_from, charges_of}
-use Rattle.sheets.specs.Bytes.{le32}
-use Rattle.sheets.specs.Columns.{columns_from, columns_of}
-use Rattle.sheets.specs.Members.{outside, missing, excessive, member_fault}
-use Rattle.sheets.specs.Sheet.{missized, member_refusal_from, member_refusal}
-use Rattle.admission.specs.Admission.{misranked, pools_misranked}
-use Rattle.pools.specs.Pools.{losses_after, joined_pool, sums_of, charges_in, charges_up_to, charges_together, unmet, still_standing, tied, charges_by_pools}
-use Rattle.waterfall.specs.Opening.{opening_register, opening_refusal}
-use Rattle.waterfall.specs.Default.{rooms_of, fallen_call, to_place, on_margin, after1, on_contribution, after2, on_tranche1, after3, after4, on_tranche2, after5, on_calls, calls, shortfall, allocation_of, settled_of}
-use Rattle.waterfall.specs.Pools.{given_before, pool_sums, pooled_charges, pooled_allocation, pooled_refusal, pooled_of, pooled_slip}
+use Rattle.std.specs.Prelude.{is_ok}
 use Rattle.waterfall.specs.Register.{GivenBack}
-use Rattle.waterfall.specs.Reply.{judged}
+use Rattle.waterfall.specs.Reply.{Reply}
 use Rattle.waterfall.proofs.Entered.{given-opened}
-use Rattle.raised_loss.specs.RaisedLoss.{TwoDefaults, LargerLoss}
+use Rattle.raised_loss.specs.RaisedLoss.{lower, higher, LargerLoss}
 use Rattle.raised_loss.proofs.Theorem.{raise_a_loss}
+use Rattle.drill.specs.Counting.{accepted}
 use Rattle.worked.specs.Drills.{sheet, register, slip, ranked, one_pool}
+use Rattle.worked.specs.RaisedLoss.{used_slip, from_80-to-100}
 
 given : GivenBack register
 unfolding register
 given = given-opened sheet 22_000
 
-two_defaults : TwoDefaults register 1 (ranked 255 1 2 2) (one_pool 80_000) (one_pool 100_000) slip (replicate 130 7)
-unfolding register opening_refusal member_refusal member_refusal_from member_fault outside missing excessive missized le32 check opening_register columns_of columns_from judged pooled_of pooled_slip pooled_refusal pooled_allocation pooled_charges pool_sums given_before pools_misranked misranked exceeds rooms_of fallen_call to_place on_margin after1 on_contribution after2 on_tranche1 after3 after4 on_tranche2 after5 on_calls calls shortfall allocation_of settled_of losses_after joined_pool sums_of charges_in charges_up_to charges_together unmet still_standing tied charges_by_pools charges_of charges_from split_of share_of
-two_defaults =
+lower_accepted : accepted (lower register 1 (ranked 255 1 2 2) (one_pool 80_000) (one_pool 100_000) slip used_slip) ≡ true
+lower_accepted = ap (λ (reply : Reply). is_ok reply) from_80-to-100.0
+
+higher_accepted : accepted (higher register 1 (ranked 255 1 2 2) (one_pool 80_000) (one_pool 100_000) slip used_slip) ≡ true
+higher_accepted = ap (λ (reply : Reply). is_ok reply) (from_80-to-100.5 ∙ from_80-to-100.2)
+
+pub in_class : LargerLoss register 1 (ranked 255 1 2 2) (one_pool 80_000) (one_pool 100_000) slip used_slip
+in_class =
+    raise_a_loss register given 1 (ranked 255 1 2 2) (one_pool 80_000) (one_pool 100_000) slip used_slip
     record {
       lower_one-pool = refl;
       higher_one-pool = refl;
-      lower_accepted = refl;
-      higher_accepted = refl;
-      losses_rise = omega arith;
+      lower_accepted = lower_accepted;
+      higher_accepted = higher_accepted;
+      losses_rise =
+          omega (
+            arith,
+            ap {B = ℕ} (λ (b : Bool). cond b 80_000 0) lower_accepted,
+            ap {B = ℕ} (λ (b : Bool). cond b 100_000 0) higher_accepted,
+          );
     }
-
-in_class : LargerLoss register 1 (ranked 255 1 2 2) (one_pool 80_000) (one_pool 100_000) slip (replicate 130 7)
-in_class = raise_a_loss register given 1 (ranked 255 1 2 2) (one_pool 80_000) (one_pool 100_000) slip (replicate 130 7) two_defaults

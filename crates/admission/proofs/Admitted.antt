@@ -4,7 +4,7 @@ use mathlib.Core.Path.{◌≡◌, refl, ap, sym, ◌∙◌}
 use mathlib.Core.Bool.{false, not}
 use mathlib.Core.List.{List, [], ◌∷◌, map}
 use native.Mathlib.Omega.{arith}
-use borrow.Author.Tests.{ltb-false, eqb-true, not-false}
+use borrow.Author.Tests.{ltb-false, eqb-true, not-false, le-ltb, eq-eqb}
 use lib.Dec.{eqb, ltb}
 use lib.ListN.{length}
 use lib.Seq.{take_all}
@@ -14,13 +14,13 @@ use Rattle.std.specs.List.{range_with_len}
 use Rattle.std.proofs.lemmas.Bool.{or_parts}
 use Rattle.lists.specs.Limits.{member_limit, pool_limit, sum_limit}
 use Rattle.lists.specs.Sums.{total}
-use Rattle.lists.proofs.Checks.{check_past}
+use Rattle.lists.proofs.Checks.{check_past, check_skip}
 use Rattle.refusal.specs.declared.Refusal.{Refusal}
 use Rattle.figures.specs.declared.Status.{Status}
-use Rattle.figures.specs.Figures.{status_at, others}
+use Rattle.figures.specs.Figures.{status_at, is_absent, is_in-default, others}
 use Rattle.admission.specs.Admission.{misranked, unready, admission, loss_of, losses_of, miscounted, excessive_losses, pools_unready, pools_misranked, losses_admission, pools_admission}
 use Rattle.admission.specs.declared.Pools.{Pools}
-use Rattle.admission.proofs.Passed.{check_or, standing_or, passes}
+use Rattle.admission.proofs.Passed.{check_or, standing_or, passes, present_test, default_test}
 
 -- `slip` is how many numbers are lent
 module _ (status : List Status) (member loss : ℕ) (ranks : List ℕ) (slip : ℕ) where
@@ -46,6 +46,15 @@ module _ (status : List Status) (member loss : ℕ) (ranks : List ℕ) (slip : �
         slip-length = ltb-false _ _ (or_parts (not (eqb (length ranks) member_limit)) _ d.0).1;
         well_ranked = f.0;
       }
+
+  -- 11 to 15 refuse nothing of which all this is known
+  pub admits : Admitted → (rest : Option Refusal) → admission status member loss ranks slip rest ≡ rest
+  admits a rest =
+      check_skip (is_absent (status_at status member)) _ _ rest (present_test _ a.present)
+      (check_skip (is_in-default (status_at status member)) _ _ rest (default_test _ a.not_in-default)
+      (check_skip (ltb sum_limit loss) _ _ rest (le-ltb _ _ a.loss_fits)
+      (check_skip (unready (length ranks) slip) _ _ rest (rw (eq-eqb _ _ a.ranks_length, le-ltb _ _ a.slip-length) refl)
+      (check_skip (misranked (others status member) ranks) _ rest rest a.well_ranked refl))))
 
 -- with pools ------------------------------------------------------------------------
 

@@ -36,6 +36,17 @@ pub record Passes (status : List Status) (member : ℕ) (rest : Option Refusal) 
 not_that : (test : Status → Bool) (s kind : Status) → test kind ≡ true → test s ≡ false → s ≡ kind → ⊥
 not_that test s kind e h q = cc
 
+-- and the other way about
+pub present_test : (s : Status) → (s ≡ Status.Absent → ⊥) → is_absent s ≡ false
+present_test Status.Absent h = absurd (h refl)
+present_test Status.Live h = refl
+present_test Status.InDefault h = refl
+
+pub default_test : (s : Status) → (s ≡ Status.InDefault → ⊥) → is_in-default s ≡ false
+default_test Status.Absent h = refl
+default_test Status.Live h = refl
+default_test Status.InDefault h = absurd (h refl)
+
 pub passes : (status : List Status) (member : ℕ) (rest : Option Refusal) → standing status member rest ≡ None → Passes status member rest
 passes status member rest e =
     let a = check_past (is_absent (status_at status member)) (Some Refusal.Unregistered) _ (λ q. cc) e in

@@ -54,6 +54,10 @@ loss_of pools p = get_or pools.losses p 0
 abbrev pub losses_of : Pools → List ℕ
 losses_of pools = map (loss_of pools) (range_with_len 0 pools.count)
 
+-- one pool with this loss
+abbrev pub one_pool : ℕ → Pools
+one_pool loss = record { count = 1; losses = loss ∷ 0 ∷ 0 ∷ 0 ∷ [] }
+
 -- 64 bytes a pool: the ranks of pool p
 abbrev pub pool_ranks : List ℕ → ℕ → List ℕ
 pool_ranks ranks p = take member_limit (drop (member_limit * p) ranks)

@@ -102,7 +102,7 @@ fn unranked(status: Status, rank: u8) -> bool
 }
 
 // 15 in one pool: only the ranks of the live members are read.
-fn misranked(status: &[Status; 64], ranks: &[u8; 64]) -> bool
+pub fn misranked(status: &[Status; 64], ranks: &[u8; 64]) -> bool
     ensures { result ≡ misranked (live_in status.now) ranks.now }
 {
     // To the end, and no `any`: so many ranks are tested at once.

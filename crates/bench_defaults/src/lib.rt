@@ -3,6 +3,7 @@
 #![tactic(auto)]
 
 pub mod fold;
+pub mod range;
 
 ghost use Rattle.std.specs.Prelude.{◌≡◌};
 
@@ -78,7 +79,7 @@ fn once(
     register.declare(DEFAULTER, risen, ranks, slip)
 }
 
-// A loop of its own here, in `bench_splits`, in pages and in sizings, and no function over a closure for the four: a closure clears room for its answer
+// A loop of its own here, in `range`, `bench_splits`, pages and sizings, and no function over a closure for the five: a closure clears room for its answer
 // each turn (119 of a default's 3,575 instructions).
 fn repeat(register: Register, pools: Pools, ranks: &[u8], turns: u64) -> u64
     ensures { (turns ≡ 0) → (result ≡ 0) }

@@ -1,12 +1,12 @@
 // Runs one case of the benchmarks so many times and prints a checksum of the answers, which must equal the Rust implementation's.
-// The cases: ranked, tied, calls, pools and page REPS; whole, alone and ordinary REPS, the engine's split, and with `old_` before them the old one; and
+// The cases: ranked, tied, calls, pools, range and page REPS; whole, alone and ordinary REPS, the engine's split, and with `old_` before them the old one; and
 // sizing REPS STRESS SHARES.
 #![tactic(auto)]
 
 mod pages;
 mod sizings;
 
-use bench_defaults::{Case, measured};
+use bench_defaults::{Case, measured, range};
 use bench_splits::{Case as Split, Side, measured as measured_split};
 use files::{arg_count, argument, number_at};
 use std::io::Eprint;
@@ -19,6 +19,7 @@ fn checksum(rt: &(impl Env + Files + Eprint), case: &[u8], turns: u64) -> Option
         (b"tied", 3) => Some(measured(Case::Tied, turns)),
         (b"calls", 3) => Some(measured(Case::Calls, turns)),
         (b"pools", 3) => Some(measured(Case::Pools, turns)),
+        (b"range", 3) => Some(range::measured(turns)),
         (b"page", 3) => Some(pages::run(turns)),
         (b"whole", 3) => Some(measured_split(Side::Engine, Split::Whole, turns)),
         (b"alone", 3) => Some(measured_split(Side::Engine, Split::Alone, turns)),
@@ -45,7 +46,7 @@ fn main(rt: HostRuntime) {
         }
         None => {
             let _ = eprintln!(rt;
-                "usage: bench_engine ranked|tied|calls|pools|page REPS\n       bench_engine [old_](whole|alone|ordinary) REPS\n       bench_engine sizing REPS STRESS SHARES"
+                "usage: bench_engine ranked|tied|calls|pools|range|page REPS\n       bench_engine [old_](whole|alone|ordinary) REPS\n       bench_engine sizing REPS STRESS SHARES"
             );
         }
     }

@@ -7,6 +7,7 @@ ghost use Rattle.std.specs.List.{before_first, position_or_len};
 use admission::Pools;
 use drill::DrillCall;
 use numbers::read_number;
+use ranges::Losses;
 use words::find;
 
 /// What a line calls.
@@ -25,6 +26,13 @@ pub enum Called {
     /// A drill call, how many ranks are handed over, and how many numbers the slip has.
     Drill {
         call: DrillCall,
+        ranks: usize,
+        slip: usize,
+    },
+    /// A range of losses of a member's default, with the same.
+    Range {
+        member: u64,
+        losses: Losses,
         ranks: usize,
         slip: usize,
     },
@@ -93,6 +101,12 @@ fn read_called(words: &[u8]) -> Option<Called> {
         (b"replenishment", [member, amount, ..]) => {
             Some(drill_call(DrillCall::Replenishment { member, amount }))
         }
+        (b"range", [member, low, high, ranks, slip, ..]) => Some(Called::Range {
+            member,
+            losses: Losses { low, high },
+            ranks: ranks as usize,
+            slip: slip as usize,
+        }),
         (b"close", _) => Some(drill_call(DrillCall::Close)),
         _ => None,
     }

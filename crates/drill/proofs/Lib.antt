@@ -3,6 +3,7 @@ pub mod Laws
 pub mod Order
 pub mod Calls
 pub mod Defaults
+pub mod OnePool
 pub mod Runs
 pub mod Opening
 pub mod Theorem

@@ -65,6 +65,7 @@ pub struct Placed {
 
 // The six layers, one after the other: the losses and the fallen call go down them. `figures` has the members as they stand once the defaulter is in
 // default, so that the live ones are the others.
+#[inline(always)]
 fn place(figures: Figures, estate: Estate, pools: Pools, ranks: &[u8]) -> Placed
     requires moderate { total (losses_of pools) + estate.fallen ≤ allocation_limit }
     requires pooled { Pooled pools figures.status.now figures.contribution.now ranks.now }
@@ -111,7 +112,9 @@ fn place(figures: Figures, estate: Estate, pools: Pools, ranks: &[u8]) -> Placed
     }
 }
 
-// A default that 11 to 15, 21 and 22 do not refuse, by the figures of the register that it is declared in. Nothing is changed yet.
+// A default that 11 to 15, 21 and 22 do not refuse, by the figures of the register that it is declared in. Nothing is changed yet. Inlined with `place`
+// where a default and a range's ends are placed: as a call it hands what it placed over by value, a kilobyte of it.
+#[inline(always)]
 pub fn allocate(figures: Figures, member: u64, pools: Pools, ranks: &[u8]) -> Placed
     requires { Allocatable figures.status.now figures.contribution.now figures.outstanding.now figures.cap.now figures.called.now member pools ranks.now }
     ensures { let read = figures.entry in let marks = others read.status.now member in let rooms = rooms marks read.cap.now read.called.now in

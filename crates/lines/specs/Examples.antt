@@ -1,4 +1,4 @@
--- Lines of a default as they are typed, with one pool and with more.
+-- Lines of a default as they are typed, with one pool and with more, and of a range.
 use Rattle.std.specs.Prelude.{ℕ, ◌≡◌, refl, [], ◌∷◌, set, Option, Some, Result, Ok, Err}
 use Rattle.lists.specs.Checks.{check}
 use Rattle.lists.specs.Texts.{ascii}
@@ -10,6 +10,7 @@ use Rattle.typed_ranks.specs.TypedRanks.{rank_of, missing_ranks}
 use Rattle.typed_ranks.specs.Pools.{pools_of}
 use Rattle.drill.specs.declared.DrillCall.{DrillCall}
 use Rattle.lines.specs.Defaults.{no_ranks, default_line, default_ranks}
+use Rattle.lines.specs.RangeLines.{range_line, range_ranks}
 use Rattle.lines.specs.Lines.{said_of, ranks_for, line_of, ranks_of}
 use Rattle.lines.specs.declared.Line.{Line}
 
@@ -48,3 +49,22 @@ pub ranks :
     × (ranks_of (ascii "default 1 5 2:1 /") ≡ no_ranks)
 unfolding ranks_for default_ranks pools_of words_of read_of rank_of field_of trimmed check
 ranks = (refl, refl, refl)
+
+-- a range of losses of member 1: HIGH stands behind LOW and is no rank, and no word `/` is among the ranks
+abbrev pub ranged : ℕ → ℕ → Result (Option Line) Unreadable
+ranged low high = Ok (Some (Line.Range 1 (record { low = low; high = high })))
+
+pub ranges :
+    (line_of (ascii "range 1 5 9 2:1") ≡ ranged 5 9)
+    × (line_of (ascii "range 1 9 5") ≡ ranged 9 5)
+    × (line_of (ascii "range 1 5") ≡ unread)
+    × (line_of (ascii "range 1 5 2:1") ≡ unread)
+    × (line_of (ascii "range 1 5 9 7") ≡ unread)
+    × (line_of (ascii "range 1 5 9 2:1 2:3") ≡ unread)
+    × (line_of (ascii "range 1 5 9 2:1 / 3:2") ≡ unread)
+    × (line_of (ascii "range 1 5 9 2:1 / 9 3:2") ≡ unread)
+    × (line_of (ascii "range 1 5 9 /") ≡ unread)
+    × (ranks_of (ascii "range 1 5 9 2:1 3:") ≡ set no_ranks 0 (set missing_ranks 1 1))
+    × (ranks_of (ascii "range 1 5 9 2:1 / 9 3:2") ≡ no_ranks)
+unfolding said_of ranks_for range_line range_ranks default_line default_ranks pools_of words_of read_of rank_of field_of trimmed check
+ranges = (refl, refl, refl, refl, refl, refl, refl, refl, refl, refl, refl)

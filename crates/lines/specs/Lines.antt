@@ -8,6 +8,7 @@ use Rattle.words.specs.declared.Unreadable.{Unreadable}
 use Rattle.numbers.specs.Numbers.{read_of}
 use Rattle.drill.specs.declared.DrillCall.{DrillCall}
 use Rattle.lines.specs.Defaults.{default_line, default_ranks, no_ranks}
+use Rattle.lines.specs.RangeLines.{range_line, range_ranks}
 use Rattle.lines.specs.declared.Line.{Line}
 
 -- unreadable: "something that is no number"
@@ -29,7 +30,7 @@ abbrev pub alone : Line → List (List ℕ) → Option Line
 alone line [] = Some line
 alone line (w ∷ ws) = None
 
--- a line that does not begin with `default`, by its first word and the others: "another word" is unreadable
+-- a line that begins neither with `default` nor with `range`, by its first word and the others: "another word" is unreadable
 unfoldable pub other_line : List ℕ → List (List ℕ) → Option Line
 other_line word ws =
     check (bytes_eq word (ascii "payment")) (pair_line DrillCall.Payment ws)
@@ -39,12 +40,18 @@ other_line word ws =
     (check (bytes_eq word (ascii "page")) (alone Line.Page ws)
     None))))
 
--- and with the defaults
+-- and with these two, which have ranks
 unfoldable pub said_of : List ℕ → List (List ℕ) → Option Line
-said_of word ws = check (bytes_eq word (ascii "default")) (option_map Line.Call (default_line ws)) (other_line word ws)
+said_of word ws =
+    check (bytes_eq word (ascii "default")) (option_map Line.Call (default_line ws))
+    (check (bytes_eq word (ascii "range")) (range_line ws)
+    (other_line word ws))
 
 unfoldable pub ranks_for : List ℕ → List (List ℕ) → List (List ℕ)
-ranks_for word ws = check (bytes_eq word (ascii "default")) (default_ranks ws) no_ranks
+ranks_for word ws =
+    check (bytes_eq word (ascii "default")) (default_ranks ws)
+    (check (bytes_eq word (ascii "range")) (range_ranks ws)
+    no_ranks)
 
 -- "a line with no word is skipped"
 abbrev pub line_in : List (List ℕ) → Result (Option Line) Unreadable
@@ -59,6 +66,7 @@ ranks_with (word ∷ ws) = ranks_for word ws
 abbrev pub line_of : List ℕ → Result (Option Line) Unreadable
 line_of line = line_in (words_of line)
 
--- the ranks beside it: those that the words of a readable default give to its first four pools, and 255 for everyone else
+-- the ranks beside it: those that the words of a readable default give to its first four pools, or those of a readable range to the first, and 255 for
+-- everyone else
 abbrev pub ranks_of : List ℕ → List (List ℕ)
 ranks_of line = ranks_with (words_of line)

@@ -6,6 +6,7 @@ ghost use Rattle.std.specs.Option.{IfSome, is_some};
 ghost use Rattle.typed_ranks.specs.Pools.{to_slash, further_pools, pools_from, pools_of};
 ghost use Rattle.lines.specs.Defaults.{number_in, behind, is_readable, all_readable};
 ghost use Rattle.lines.specs.Defaults.{no_ranks, default_line, default_ranks, handed_of};
+ghost use Rattle.lines.specs.RangeLines.{range_line, range_ranks, first_ranks};
 ghost use Rattle.lines.specs.Lines.{pair_of, alone, other_line, said_of, ranks_for, line_of, ranks_of};
 ghost use Rattle.lines.specs.Parts.{PoolRead, added, typed_in};
 
@@ -13,6 +14,7 @@ use admission::Pools;
 use drill::DrillCall;
 use lists::{MISSING_RANK, POOL_LIMIT};
 use numbers::read_number;
+use ranges::Losses;
 use typed_ranks::read_ranks;
 use words::{Unreadable, Words};
 
@@ -21,6 +23,7 @@ use words::{Unreadable, Words};
 pub enum Line {
     Register,
     Page,
+    Range { member: u64, losses: Losses },
     Call(DrillCall),
 }
 
@@ -128,6 +131,30 @@ fn default_line(words: &mut Words, ranks: &mut [[u8; 64]; 4]) -> Option<DrillCal
     Some(DrillCall::Default { member, pools })
 }
 
+// What follows `range`. The high loss and the ranks stand as those of a default's one pool do.
+#[tactic(auto, unfolding(lists::specs::Checks::check, crate::specs::RangeLines::range_line, crate::specs::RangeLines::range_ranks, typed_ranks::specs::Pools::pools_of))]
+fn range_line(words: &mut Words, ranks: &mut [[u8; 64]; 4]) -> Option<Line>
+    requires { ranks.old ≡ no_ranks }
+    ensures value { result ≡ range_line words.old }
+    ensures ranks_after { ranks.new ≡ range_ranks words.old }
+{
+    let member = number(words)?;
+    let low = number(words)?;
+    let pool = read_pool(words)?;
+    if pool.more {
+        return None;
+    }
+    let typed = pool.ranks;
+    ranks[0] = typed;
+    Some(Line::Range {
+        member,
+        losses: Losses {
+            low,
+            high: pool.loss,
+        },
+    })
+}
+
 // A line that says the same thing as its first word.
 fn alone(says: Line, words: &mut Words) -> Option<Line>
     ensures { result ≡ alone says words.old }
@@ -138,7 +165,7 @@ fn alone(says: Line, words: &mut Words) -> Option<Line>
     }
 }
 
-// A line that begins with a word other than `default`. (Tests and no `match` on byte strings, as in `rows::kind_named`.)
+// A line that begins with a word other than `default` and `range`. (Tests and no `match` on byte strings, as in `rows::kind_named`.)
 #[tactic(auto, unfolding(lists::specs::Checks::check, crate::specs::Lines::other_line))]
 fn other_line(word: &[u8], words: &mut Words) -> Option<Line>
     ensures { result ≡ other_line word.now words.old }
@@ -174,10 +201,13 @@ fn said(word: &[u8], words: &mut Words, ranks: &mut [[u8; 64]; 4]) -> Option<Lin
         let call = default_line(words, ranks)?;
         return Some(Line::Call(call));
     }
+    if word == b"range".as_slice() {
+        return range_line(words, ranks);
+    }
     other_line(word, words)
 }
 
-/// What a line says, and None where it has no word, with the ranks of a default: 64 for each of four pools.
+/// What a line says, and None where it has no word, with the ranks of a default, 64 for each of four pools, or of a range, which are the first 64.
 pub fn read_line(line: &[u8], ranks: &mut [[u8; 64]; 4]) -> Result<Option<Line>, Unreadable>
     ensures value { result ≡ line_of line.now }
     ensures ranks_after { ranks.new ≡ ranks_of line.now }
@@ -188,6 +218,13 @@ pub fn read_line(line: &[u8], ranks: &mut [[u8; 64]; 4]) -> Result<Option<Line>,
         return Ok(None);
     };
     said(word, &mut words, ranks).map(Some).ok_or(Unreadable)
+}
+
+/// The ranks that go with a range: those where a first pool's are.
+pub fn first_ranks(ranks: &[[u8; 64]; 4]) -> &[u8; 64]
+    ensures { result.now ≡ first_ranks ranks.now }
+{
+    &ranks[0]
 }
 
 /// The ranks that go with a call: a default's pools have 64 each, and the other calls read none.

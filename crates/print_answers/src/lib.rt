@@ -2,9 +2,10 @@
 #![tactic(auto)]
 
 ghost use Rattle.std.specs.Prelude.{◌≡◌, ◌+◌, ◌*◌, ◌≤◌, ◌++◌, length};
-ghost use Rattle.print_answers.specs.Texts.{unreadable_text, allocation_text, charge_text, charges_text, reply_text};
+ghost use Rattle.print_answers.specs.Texts.{unreadable_text, layers_text, allocation_text, charge_text, charges_text, refused_text, reply_text};
 
 use lists::MEMBER_LIMIT;
+use refusal::Refusal;
 use text::Text;
 use waterfall::{Allocation, Reply};
 
@@ -19,14 +20,14 @@ pub fn put_unreadable<const N: usize>(out: &mut Text<N>, line: u64)
     out.put(b"\n");
 }
 
-#[tactic(auto, unfolding(crate::specs::Texts::allocation_text))]
-fn put_allocation<const N: usize>(out: &mut Text<N>, a: Allocation)
-    requires { length out.old + 200 ≤ N }
-    ensures bytes { out.new ≡ out.old ++ allocation_text a }
-    ensures len { length out.new ≤ length out.old + 200 }
+/// Puts the six layers and the shortfall.
+#[tactic(auto, unfolding(crate::specs::Texts::layers_text))]
+pub fn put_layers<const N: usize>(out: &mut Text<N>, a: Allocation)
+    requires { length out.old + 160 ≤ N }
+    ensures bytes { out.new ≡ out.old ++ layers_text a }
+    ensures len { length out.new ≤ length out.old + 160 }
 {
     // A list of labels and numbers to put in a loop would be as long.
-    out.put_labelled(b"accepted fallen ", a.fallen);
     out.put_labelled(b" layers ", a.margin);
     out.put_labelled(b" ", a.contribution);
     out.put_labelled(b" ", a.tranche1);
@@ -34,6 +35,16 @@ fn put_allocation<const N: usize>(out: &mut Text<N>, a: Allocation)
     out.put_labelled(b" ", a.tranche2);
     out.put_labelled(b" ", a.calls);
     out.put_labelled(b" short ", a.short);
+}
+
+#[tactic(auto, unfolding(crate::specs::Texts::allocation_text))]
+fn put_allocation<const N: usize>(out: &mut Text<N>, a: Allocation)
+    requires { length out.old + 200 ≤ N }
+    ensures bytes { out.new ≡ out.old ++ allocation_text a }
+    ensures len { length out.new ≤ length out.old + 200 }
+{
+    out.put_labelled(b"accepted fallen ", a.fallen);
+    put_layers(out, a);
     out.put(b"\n");
 }
 
@@ -66,6 +77,16 @@ fn put_charges<const N: usize>(out: &mut Text<N>, slip: &[u64])
     }
 }
 
+/// Puts the number of a refusal, none of which is of a record here: `print_refusal` puts the record as well.
+pub fn put_refused<const N: usize>(out: &mut Text<N>, refusal: Refusal)
+    requires { length out.old + 40 ≤ N }
+    ensures bytes { out.new ≡ out.old ++ refused_text refusal }
+    ensures len { length out.new ≤ length out.old + 40 }
+{
+    out.put_labelled(b"refused ", u64::from(refusal.number()));
+    out.put(b"\n");
+}
+
 /// Puts a call's answer, with the slip that the call left.
 pub fn put_reply<const N: usize>(out: &mut Text<N>, reply: Reply, slip: &[u64])
     requires { (length out.old + 8192 ≤ N) × (128 ≤ length slip.now) }
@@ -73,11 +94,7 @@ pub fn put_reply<const N: usize>(out: &mut Text<N>, reply: Reply, slip: &[u64])
     ensures len { length out.new ≤ length out.old + 8192 }
 {
     match reply {
-        // `reply_text` has no record for any refusal, and `put_refusal` puts one.
-        Err(refusal) => {
-            out.put_labelled(b"refused ", u64::from(refusal.number()));
-            out.put(b"\n");
-        }
+        Err(refusal) => put_refused(out, refusal),
         Ok(None) => out.put(b"accepted\n"),
         Ok(Some(allocation)) => {
             put_allocation(out, allocation);

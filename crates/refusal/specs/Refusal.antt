@@ -53,6 +53,10 @@ number_of Refusal.Unprintable = 20
 number_of Refusal.Miscounted = 21
 -- 22, document 02, request 3: "pool losses together above 25,600,000,000"
 number_of Refusal.ExcessiveLosses = 22
+-- 23, document 02, request 7: "low above high"
+number_of Refusal.ReversedLosses = 23
+-- 24, document 02, request 7: "range slip below 256 numbers"
+number_of Refusal.ShortRangeSlip = 24
 
 -- "and, for 4 to 8, the record's place counted from 1 (0 for the others)"
 abbrev pub position_of : Refusal → ℕ

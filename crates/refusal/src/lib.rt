@@ -14,7 +14,7 @@ pub enum Fault {
     SixthWeak,
 }
 
-/// Why a sheet, a sum, a slip, a call or a page is refused. A record's position is counted from 1.
+/// Why a sheet, a sum, a slip, a call, a range or a page is refused. A record's position is counted from 1.
 #[derive(Clone, Copy, Debug, PartialEq, Eq)]
 pub enum Refusal {
     Missized,
@@ -35,6 +35,8 @@ pub enum Refusal {
     Unprintable,
     Miscounted,
     ExcessiveLosses,
+    ReversedLosses,
+    ShortRangeSlip,
 }
 
 impl Fault {
@@ -76,6 +78,8 @@ impl Refusal {
             Refusal::Unprintable => 20,
             Refusal::Miscounted => 21,
             Refusal::ExcessiveLosses => 22,
+            Refusal::ReversedLosses => 23,
+            Refusal::ShortRangeSlip => 24,
         }
     }
 

@@ -1,4 +1,4 @@
-// Every refusal of sizing and of the drill calls, obtained from compiled code, also where two apply: a test that prints each number and position.
+// Every refusal of sizing, of the drill calls and of ranges, obtained from compiled code, also where two apply: a test that prints each number and position.
 // The cases are the lines of the file stdin; `rt ci` holds what is printed to the file stdout, which was written from documents 01 and 02. A line
 // has a label, what is called, the numbers that it is called with, and bytes in hexadecimal:
 //
@@ -6,6 +6,7 @@
 //     LABEL: open G / REGISTER SHEET
 //     LABEL: default MEMBER POOLS LOSS1 LOSS2 LOSS3 LOSS4 COUNT SLIP / RANKS; RANKS; ..
 //                                                           COUNT ranks are handed over, 255 where a pool's RANKS say nothing
+//     LABEL: range MEMBER LOW HIGH COUNT SLIP / RANKS
 //     LABEL: payment MEMBER AMOUNT
 //     LABEL: replenishment MEMBER AMOUNT
 //     LABEL: close
@@ -18,13 +19,14 @@ use cases::{Called, Case, bytes, cut, read_case};
 use drill::{DrillCall, apply};
 use files::read_all;
 use lists::MISSING_RANK;
+use ranges::{Losses, range};
 use refusal::Refusal;
 use std::io::Print;
 use waterfall::Register;
 use waterfall::opening::open;
 
 // A slip as it is lent, of which a case hands over as many numbers as it says.
-const LENT: [u64; 130] = [7; 130];
+const LENT: [u64; 258] = [7; 258];
 
 // Says what was answered, and where a refusal altered what it was lent.
 fn say(rt: &impl Print, label: &[u8], refusal: Option<Refusal>, kept: bool) {
@@ -51,7 +53,7 @@ fn size(rt: &impl Print, case: Case<'_>, prevailing: u64, available: u64, lent: 
         bytes(&mut shares_room, shares),
         prevailing,
         available,
-        &mut slip[..lent.min(130)],
+        &mut slip[..lent.min(258)],
     );
     say(rt, case.label, sized.err(), slip == LENT);
 }
@@ -94,7 +96,7 @@ fn drill(
         register,
         call,
         &ranks[..count.min(320)],
-        &mut slip[..lent.min(130)],
+        &mut slip[..lent.min(258)],
     );
     let kept = slip == LENT && outcome.register == register;
     say(rt, case.label, outcome.reply.err(), kept);
@@ -103,6 +105,28 @@ fn drill(
     } else {
         register
     }
+}
+
+// A range of losses, on a register that it cannot alter.
+fn ranged(
+    rt: &impl Print,
+    case: Case<'_>,
+    member: u64,
+    losses: Losses,
+    count: usize,
+    lent: usize,
+    register: &Register,
+) {
+    let ranks = ranks_of(case.digits);
+    let mut slip = LENT;
+    let answer = range(
+        register,
+        member,
+        losses,
+        &ranks[..count.min(320)],
+        &mut slip[..lent.min(258)],
+    );
+    say(rt, case.label, answer.err(), slip == LENT);
 }
 
 fn run(rt: &impl Print, case: Case<'_>, register: Register) -> Register {
@@ -117,6 +141,15 @@ fn run(rt: &impl Print, case: Case<'_>, register: Register) -> Register {
         }
         Called::Open { own } => opening(rt, case, own),
         Called::Drill { call, ranks, slip } => drill(rt, case, call, ranks, slip, register),
+        Called::Range {
+            member,
+            losses,
+            ranks,
+            slip,
+        } => {
+            ranged(rt, case, member, losses, ranks, slip, &register);
+            register
+        }
     }
 }
 

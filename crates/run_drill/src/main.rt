@@ -2,21 +2,26 @@
 // next read.
 #![tactic(auto)]
 
-ghost use Rattle.std.specs.Prelude.{◌≡◌, ◌+◌, ◌≤◌, ◌++◌, length};
+ghost use Rattle.std.specs.Prelude.{◌≡◌, ◌+◌, ◌≤◌, ◌++◌, length, replicate};
 ghost use Rattle.drill.specs.Drill.{applied_of, slip_left};
 ghost use Rattle.lines.specs.Defaults.{handed_of};
+ghost use Rattle.lines.specs.RangeLines.{first_ranks};
 ghost use Rattle.print_answers.specs.Texts.{reply_text};
 ghost use Rattle.print_page.specs.Parts.{Printable};
+ghost use Rattle.print_ranges.specs.Texts.{range_text};
+ghost use Rattle.ranges.specs.Ranges.{range_of, range_slip};
 
 use drill::DrillCall;
 use input::{Lines, State};
-use lines::{Line, NO_RANKS, handed, read_line};
+use lines::{Line, NO_RANKS, first_ranks, handed, read_line};
 use lists::MEMBER_ROOM;
 use output::{make_room, tell, write_out};
 use print_answers::{put_reply, put_unreadable};
 use print_page::{latest_of, put_page};
+use print_ranges::put_range;
 use print_refusal::put_opening;
 use print_register::put_register;
+use ranges::{Losses, range};
 use std::io;
 use std::io::{Eprint, Input, Print};
 use text::Text;
@@ -26,7 +31,8 @@ use words::Unreadable;
 // No answer is longer. Room for one is made before a line is taken, and the answer uses it up, so it is no fact of the drill's type.
 const ANSWER_ROOM: usize = 16384;
 
-// A drill: its register as it stands, the latest default, ranks and slip of the latest call, and the answers that are not written yet.
+// A drill: its register as it stands, the latest default, the ranks of the latest line, the slip of the latest call, and the answers that are not written
+// yet.
 #[derive(Drop)]
 struct Drill {
     register: Register,
@@ -73,12 +79,34 @@ impl Drill {
         put_reply(&mut self.answers, done.reply, &self.slip);
     }
 
+    // Answers what a default would take whose loss is known only as a range. The register, the latest default and the slip stay.
+    fn range(&mut self, member: u64, losses: Losses)
+        requires { length self.old.answers + 16384 ≤ 65536 }
+        ensures register_after { self.new.register ≡ self.old.register }
+        ensures latest_after { self.new.latest ≡ self.old.latest }
+        ensures slip_after { self.new.slip ≡ self.old.slip }
+        ensures answered { let ranks = first_ranks self.old.ranks in let lent = replicate 256 0 in
+            self.new.answers ≡ self.old.answers ++ range_text (range_of self.old.register member losses ranks lent)
+            (range_slip self.old.register member losses ranks lent) }
+    {
+        let mut slip = [0; 256];
+        let answer = range(
+            &self.register,
+            member,
+            losses,
+            first_ranks(&self.ranks),
+            &mut slip,
+        );
+        put_range(&mut self.answers, answer, &slip);
+    }
+
     fn answer(&mut self, line: Line)
         requires { length self.old.answers + 16384 ≤ 65536 }
     {
         match line {
             Line::Register => put_register(&mut self.answers, &self.register),
             Line::Page => put_page(&mut self.answers, self.latest),
+            Line::Range { member, losses } => self.range(member, losses),
             Line::Call(call) => self.call(call),
         }
     }

@@ -1,6 +1,6 @@
 -- "A one-pool default answers as before.": the same answer, register and slip as the default of document 01.
-use Prim.Native.Nat.{ℕ, ◌+◌, ◌≤◌, ◌<◌}
-use mathlib.Core.Path.{◌≡◌, refl, ap, sym, ◌∙◌}
+use Prim.Native.Nat.{ℕ, ◌+◌, ◌*◌, ◌≤◌, ◌<◌}
+use mathlib.Core.Path.{◌≡◌, refl, ap, sym, subst, ◌∙◌}
 use mathlib.Core.Bool.{false, not, true≢false}
 use mathlib.Core.List.{List, [], ◌∷◌, map}
 use native.Mathlib.Omega.{arith}
@@ -13,26 +13,27 @@ use Rattle.std.specs.List.{range_with_len}
 use Rattle.lists.specs.Checks.{check}
 use Rattle.lists.specs.Limits.{member_limit, rank_limit, sum_limit}
 use Rattle.lists.specs.Sums.{total}
-use Rattle.lists.proofs.Checks.{check_same, check_skip}
+use Rattle.lists.proofs.Checks.{check-false, check_same, check_skip}
 use Rattle.lists.proofs.Sums.{single, kept_mark, mark-within}
 use Rattle.refusal.specs.declared.Refusal.{Refusal}
 use Rattle.figures.specs.Figures.{status_at, is_absent, is_in-default, others}
 use Rattle.admission.specs.Admission.{unready, misranked, admission, loss_of, losses_of, miscounted, excessive_losses, pools_unready, pools_misranked}
 use Rattle.admission.specs.Admission.{pools_admission}
 use Rattle.admission.specs.declared.Pools.{Pools}
-use Rattle.admission.proofs.Admitted.{Admitted, admitted}
+use Rattle.admission.proofs.Admitted.{Admitted, admitted, admits}
 use Rattle.admission.proofs.Ranked.{ranks-read}
 use Rattle.pools.specs.Pools.{charges_by_pools}
 use Rattle.pools.proofs.Laws.{one_pool_lem}
 use Rattle.waterfall.specs.Register.{Register, GivenBack}
-use Rattle.waterfall.specs.Default.{standing_of, charges, after3, allocation_of, settled_of, overdrawn, slip_of, default_refusal, default_of, default_slip}
+use Rattle.waterfall.specs.Default.{standing_of, charges, calls, after3, allocation_of, settled_of, overdrawn, slip_of, default_refusal, default_of, default_slip}
 use Rattle.waterfall.specs.Pools.{loss_together, pool_sums, pooled_charges, pooled_allocation, pooled_refusal, pooled_of, pooled_slip, AsBefore}
 use Rattle.waterfall.specs.Reply.{judged}
 use Rattle.waterfall.specs.Register.{Register}
 use Rattle.layers.specs.declared.Allocation.{Allocation}
 use Rattle.waterfall.proofs.Answer.{is_none}
+use Rattle.waterfall.proofs.Default.{Layer4, never-overdrawn}
 use Rattle.waterfall.proofs.Given.{length-others, length-standing}
-use Rattle.waterfall.proofs.Pooled.{length_pool-sums, total_pool-sums}
+use Rattle.waterfall.proofs.Pooled.{length_pool-sums, total_pool-sums, pooled_layer4}
 use Rattle.std.proofs.lemmas.Bool.{or_parts}
 use Rattle.std.proofs.Math.Bool.{or-false}
 
@@ -114,6 +115,35 @@ module _ (r : Register) (g : GivenBack r) (member : ℕ) (pools : Pools) (one : 
         well_ranked = p15;
       })))))))
 
+  -- a default of which all is known that 11 to 15 ask passes them
+  pub one_pool-admits : (slip : ℕ) → Admitted r.status member loss ranks slip → pools_admission r.status member pools ranks slip None ≡ None
+  one_pool-admits slip a = same-admission None None slip (λ _. refl) ∙ admits r.status member loss ranks slip a None
+
+  pub charged_rightly : (slip : ℕ) → Admitted r.status member loss ranks slip → Layer4 r member loss (charges r member loss ranks)
+  charged_rightly slip a =
+      let each-ranked : length ranks ≡ member_limit * pools.count = a.ranks_length ∙ ap (λ (n : ℕ). member_limit * n) (sym one) in
+      subst (λ (l : ℕ). Layer4 r member l (charges r member loss ranks)) together
+      (subst (Layer4 r member (loss_together pools)) (same-charges slip a) (pooled_layer4 r member pools (omega arith) (omega arith) g ranks each-ranked))
+
+  -- and 19
+  pub unrefused_by-rule : (slip : List ℕ) → Admitted r.status member loss ranks (length slip) → default_refusal r member loss ranks slip ≡ None
+  unfolding default_refusal
+  unrefused_by-rule slip a =
+      admits r.status member loss ranks (length slip) a _
+      ∙ sym (check-false _ _ _ (never-overdrawn r member loss (charges r member loss ranks) (charged_rightly (length slip) a)) refl)
+
+  -- it allocates and calls the same
+  pub one_pool-allocation : (slip : ℕ) → Admitted r.status member loss ranks slip
+      → pooled_allocation r member pools ranks ≡ allocation_of r member loss (charges r member loss ranks)
+  unfolding pooled_allocation
+  one_pool-allocation slip a =
+      ap (λ (l : ℕ). allocation_of r member l (pooled_charges r member pools ranks)) together ∙ ap (allocation_of r member loss) (same-charges slip a)
+
+  pub one_pool-calls : (slip : ℕ) → Admitted r.status member loss ranks slip
+      → calls r member (loss_together pools) (pooled_charges r member pools ranks) ≡ calls r member loss (charges r member loss ranks)
+  one_pool-calls slip a =
+      ap (λ (l : ℕ). calls r member l (pooled_charges r member pools ranks)) together ∙ ap (calls r member loss) (same-charges slip a)
+
   same-refusal : (slip : List ℕ) → pooled_refusal r member pools ranks slip ≡ default_refusal r member loss ranks slip
   unfolding pooled_refusal default_refusal
   same-refusal slip =
@@ -123,20 +153,20 @@ module _ (r : Register) (g : GivenBack r) (member : ℕ) (pools : Pools) (one : 
       ∙ ap (λ (cs : List ℕ). check (overdrawn r member loss cs) (Some Refusal.Overdrawn) None) (same-charges (length slip) a))
 
   -- where nothing is refused
-  accepted_same : (slip : List ℕ) → default_refusal r member loss ranks slip ≡ None → pooled_charges r member pools ranks ≡ charges r member loss ranks
+  unrefused_admitted : (slip : List ℕ) → default_refusal r member loss ranks slip ≡ None → Admitted r.status member loss ranks (length slip)
   unfolding default_refusal
-  accepted_same slip e = same-charges (length slip) (admitted r.status member loss ranks (length slip) _ e)
+  unrefused_admitted slip e = admitted r.status member loss ranks (length slip) _ e
 
   one_pool-answers : (slip : List ℕ) → pooled_of r member pools ranks slip ≡ default_of r member loss ranks slip
-  unfolding pooled_of default_of pooled_allocation
+  unfolding pooled_of default_of
   one_pool-answers slip =
       ap (λ (o : Option Refusal). judged o r (Some (pooled_allocation r member pools ranks))
       (settled_of r member (loss_together pools) (pooled_charges r member pools ranks))) (same-refusal slip)
       ∙ judged_same (default_refusal r member loss ranks slip) r _ _ _ _ (λ e.
-      let charged = accepted_same slip e in (
-        ap (λ (l : ℕ). Some (allocation_of r member l (pooled_charges r member pools ranks))) together
-            ∙ ap (λ (cs : List ℕ). Some (allocation_of r member loss cs)) charged,
-        ap (λ (l : ℕ). settled_of r member l (pooled_charges r member pools ranks)) together ∙ ap (settled_of r member loss) charged,
+      let a = unrefused_admitted slip e in (
+        ap (λ (x : Allocation). Some x) (one_pool-allocation (length slip) a),
+        ap (λ (l : ℕ). settled_of r member l (pooled_charges r member pools ranks)) together
+            ∙ ap (settled_of r member loss) (same-charges (length slip) a),
       ))
 
   one_pool-slip : (slip : List ℕ) → pooled_slip r member pools ranks slip ≡ default_slip r member loss ranks slip
@@ -145,7 +175,7 @@ module _ (r : Register) (g : GivenBack r) (member : ℕ) (pools : Pools) (one : 
       check_same (is_some (pooled_refusal r member pools ranks slip)) (is_some (default_refusal r member loss ranks slip)) _ _ _
       (ap is_some (same-refusal slip)) (λ p.
       ap (λ (l : ℕ). slip_of r member l (pooled_charges r member pools ranks) slip) together
-      ∙ ap (λ (cs : List ℕ). slip_of r member loss cs slip) (accepted_same slip (is_none _ p)))
+      ∙ ap (λ (cs : List ℕ). slip_of r member loss cs slip) (same-charges (length slip) (unrefused_admitted slip (is_none _ p))))
 
   pub one_pool_as-before : (slip : List ℕ) → AsBefore r member pools ranks slip
   one_pool_as-before slip = record { answer_and_register = one_pool-answers slip; slip_as_left = one_pool-slip slip }

@@ -170,7 +170,7 @@ module _ (r : Register) (g : GivenBack r) (member : ℕ) (pools : Pools) (ranks 
     unfolding on_tranche1 after3
     layer3_is = layer_as _ _ _ _ _ _ d.layer3 layer2_is.1 refl
 
-    layer4_is : x.charges ≡ charged
+    pub layer4_is : x.charges ≡ charged
     unfolding pooled_charges pool_sums given_before fallen_call
     layer4_is =
         d.charges_are
@@ -185,13 +185,13 @@ module _ (r : Register) (g : GivenBack r) (member : ℕ) (pools : Pools) (ranks 
     unfolding on_tranche2 after5
     layer5_is = layer_as _ _ _ _ _ _ d.layer5 left4_is refl
 
-    called_is : x.called ≡ calls r member loss charged
+    pub called_is : x.called ≡ calls r member loss charged
     unfolding calls on_calls rooms_of
     called_is =
         d.layer6.shares_are ∙ ap (λ (n : ℕ). split_of (gives n (total (rooms (live_in marked) r.cap r.called)))
         (rooms (live_in marked) r.cap r.called)) layer5_is.1
 
-    allocation_is : x.allocation ≡ pooled_allocation r member pools ranks
+    pub allocation_is : x.allocation ≡ pooled_allocation r member pools ranks
     unfolding pooled_allocation allocation_of fallen_call on_calls shortfall rooms_of
     allocation_is =
         rw (

@@ -7,7 +7,7 @@ ghost use Rattle.waterfall.specs.Parts.{Settles, settled_as};
 use crate::{Outcome, Register, Reply};
 use admission::{Pools, default_admission};
 use figures::{add_to, defaulted, lower, take_from};
-use layers::{Figures, Placed, allocate, tell};
+use layers::{Placed, allocate, tell};
 use refusal::Refusal;
 
 impl Register {
@@ -28,24 +28,16 @@ impl Register {
         add_to(&mut self.called, &placed.called, gives.calls);
     }
 
-    // The six layers change nothing yet: 19 may still refuse the default.
+    // The six layers change nothing yet: 19 may still refuse the default. Not inlined where the calls of a drill are applied: the others would bear the room
+    // that a default needs.
+    #[inline(never)]
     fn place(&mut self, member: u64, pools: Pools, ranks: &[u8], slip: &mut [u64]) -> Reply
         ensures answer { result ≡ (pooled_of self.old member pools ranks.now slip.old).reply }
         ensures register_after { self.new ≡ (pooled_of self.old member pools ranks.now slip.old).register }
         ensures slip_after { slip.new ≡ pooled_slip self.old member pools ranks.now slip.old }
     {
         default_admission(self.status, member, pools, ranks, slip.len())?;
-        let figures = Figures {
-            status: &self.status,
-            margin: &self.margin,
-            contribution: &self.contribution,
-            outstanding: &self.outstanding,
-            cap: &self.cap,
-            called: &self.called,
-            tranche1: self.tranche1,
-            tranche2: self.tranche2,
-        };
-        let placed = allocate(figures, member, pools, ranks);
+        let placed = allocate(self.figures(), member, pools, ranks);
         if placed.over {
             return Err(Refusal::Overdrawn);
         }

@@ -1,10 +1,11 @@
-// What a host prints of a register.
+// What is read of a register: by a host that prints it, and where a default is placed.
 ghost use Rattle.std.specs.Prelude.{◌≡◌};
 ghost use Rattle.waterfall.specs.Register.{GivenBack};
 ghost use Rattle.waterfall.specs.View.{figures_of, tranches_of};
 
 use crate::Register;
 use figures::{Status, figure_of, status_at};
+use layers::Figures;
 
 /// A member's figures, absent and all 0 for a number that is not in the register.
 #[derive(Clone, Copy, Debug, PartialEq, Eq)]
@@ -32,6 +33,24 @@ impl Register {
         ensures { GivenBack self.now }
     {
         let _ = &self.status;
+    }
+
+    /// The figures that a default is placed by, as they stand: nothing can be changed by them.
+    pub fn figures(&self) -> Figures<'_>
+        ensures members { (result.status.now ≡ self.now.status) × (result.margin.now ≡ self.now.margin) × (result.contribution.now ≡ self.now.contribution)
+            × (result.outstanding.now ≡ self.now.outstanding) × (result.cap.now ≡ self.now.cap) × (result.called.now ≡ self.now.called) }
+        ensures tranches { (result.tranche1 ≡ self.now.tranche1) × (result.tranche2 ≡ self.now.tranche2) }
+    {
+        Figures {
+            status: &self.status,
+            margin: &self.margin,
+            contribution: &self.contribution,
+            outstanding: &self.outstanding,
+            cap: &self.cap,
+            called: &self.called,
+            tranche1: self.tranche1,
+            tranche2: self.tranche2,
+        }
     }
 
     pub fn member(&self, member: u64) -> MemberView

@@ -1,2 +1,3 @@
--- A theorem about the worked examples.
+-- Theorems, applied to the worked examples.
 pub mod RaisedLoss
+pub mod Ranges

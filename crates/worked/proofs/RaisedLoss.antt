@@ -10,10 +10,11 @@ use Rattle.waterfall.proofs.Entered.{given-opened}
 use Rattle.raised_loss.specs.RaisedLoss.{lower, higher, LargerLoss}
 use Rattle.raised_loss.proofs.Theorem.{raise_a_loss}
 use Rattle.drill.specs.Counting.{accepted}
-use Rattle.worked.specs.Drills.{sheet, register, slip, ranked, one_pool}
+use Rattle.admission.specs.Admission.{one_pool}
+use Rattle.worked.specs.Drills.{sheet, register, slip, ranked}
 use Rattle.worked.specs.RaisedLoss.{used_slip, from_80-to-100}
 
-given : GivenBack register
+pub given : GivenBack register
 unfolding register
 given = given-opened sheet 22_000
 

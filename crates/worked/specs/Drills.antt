@@ -8,8 +8,7 @@ use Rattle.sheets.specs.Columns.{columns_from, columns_of}
 use Rattle.sheets.specs.Members.{outside, missing, excessive, member_fault}
 use Rattle.sheets.specs.Sheet.{missized, member_refusal_from, member_refusal}
 use Rattle.waterfall.specs.Opening.{tranche1_of, tranche2_of, opening_register, opening_refusal, opened_of}
-use Rattle.admission.specs.Admission.{misranked, pools_misranked}
-use Rattle.admission.specs.declared.Pools.{Pools}
+use Rattle.admission.specs.Admission.{one_pool, misranked, pools_misranked}
 use Rattle.pools.specs.Pools.{losses_after, joined_pool, sums_of, charges_in, charges_up_to, charges_together, unmet, still_standing, tied, charges_by_pools}
 use Rattle.waterfall.specs.Default.{rooms_of, fallen_call, to_place, on_margin, after1, on_contribution, after2, on_tranche1, after3, after4, on_tranche2, after5, on_calls, calls, shortfall, allocation_of, settled_of}
 use Rattle.waterfall.specs.Pools.{given_before, pool_sums, pooled_charges, pooled_allocation, pooled_refusal, pooled_of, pooled_slip}
@@ -41,10 +40,6 @@ slip = replicate 128 0
 -- ranks of members 1 to 4, the others' missing
 abbrev pub ranked : ℕ → ℕ → ℕ → ℕ → List ℕ
 ranked a b c d = a ∷ b ∷ c ∷ d ∷ replicate 60 255
-
--- a default with one pool
-abbrev pub one_pool : ℕ → Pools
-one_pool loss = record { count = 1; losses = loss ∷ 0 ∷ 0 ∷ 0 ∷ [] }
 
 -- "Default of 1, loss 100,000, ranks 2:1, 3:2, 4:2", "Next default of 3, loss 60,000, ranks 2:1, 4:1", "Next default of 2, loss 0, rank 4:1"
 unfoldable pub default1 : Outcome

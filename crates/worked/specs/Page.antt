@@ -8,6 +8,7 @@ use Rattle.sheets.specs.Bytes.{le32}
 use Rattle.sheets.specs.Columns.{columns_from, columns_of}
 use Rattle.sheets.specs.Members.{outside, missing, excessive, member_fault}
 use Rattle.sheets.specs.Sheet.{missized, member_refusal_from, member_refusal}
+use Rattle.admission.specs.Admission.{one_pool}
 use Rattle.waterfall.specs.Opening.{opening_register, opening_refusal}
 use Rattle.waterfall.specs.Default.{rooms_of, fallen_call, to_place, on_margin, after1, on_contribution, after2, on_tranche1, after3, after4, on_tranche2, after5, on_calls, shortfall, allocation_of}
 use Rattle.waterfall.specs.Pools.{given_before, pool_sums, pooled_charges, pooled_allocation}
@@ -15,7 +16,7 @@ use Rattle.pools.specs.Pools.{losses_after, joined_pool, sums_of, charges_in, ch
 use Rattle.numbers.specs.Numbers.{decimal_of}
 use Rattle.indian_digits.specs.IndianDigits.{with_commas, indian_of}
 use Rattle.page.specs.Page.{row_of, heading, line, page_of}
-use Rattle.worked.specs.Drills.{register, ranked, one_pool}
+use Rattle.worked.specs.Drills.{register, ranked}
 
 pub first-page : page_of (pooled_allocation register 1 (one_pool 100_000) (ranked 255 1 2 2)) ≡
     ascii "LAYER                        Rs THOUSAND\n"

@@ -8,7 +8,7 @@ use Rattle.sheets.specs.Bytes.{le32}
 use Rattle.sheets.specs.Columns.{columns_from, columns_of}
 use Rattle.sheets.specs.Members.{outside, missing, excessive, member_fault}
 use Rattle.sheets.specs.Sheet.{missized, member_refusal_from, member_refusal}
-use Rattle.admission.specs.Admission.{misranked, pools_misranked}
+use Rattle.admission.specs.Admission.{one_pool, misranked, pools_misranked}
 use Rattle.admission.specs.declared.Pools.{Pools}
 use Rattle.pools.specs.Pools.{losses_after, joined_pool, sums_of, charges_in, charges_up_to, charges_together, unmet, still_standing, tied, charges_by_pools}
 use Rattle.waterfall.specs.Opening.{opening_register, opening_refusal, opened_of}
@@ -16,7 +16,7 @@ use Rattle.waterfall.specs.Default.{rooms_of, fallen_call, to_place, on_margin, 
 use Rattle.waterfall.specs.Pools.{given_before, pool_sums, pooled_charges, pooled_allocation, pooled_refusal, pooled_of, pooled_slip}
 use Rattle.waterfall.specs.Register.{Register}
 use Rattle.waterfall.specs.Reply.{Reply, judged}
-use Rattle.worked.specs.Drills.{row, register, slip, ranked, one_pool, answers}
+use Rattle.worked.specs.Drills.{row, register, slip, ranked, answers}
 
 -- the answer to a loss, and the layer 4 charges and the calls of members 1 to 4
 abbrev pub answer : ℕ → Reply

@@ -5,8 +5,9 @@ use Rattle.split.specs.Examples.{split_of_5, split_of_6, split_of_10, split_over
 use Rattle.sizing.specs.Fund.{target_of, minimum_of, own_of, quantum_of}
 use Rattle.sizing.specs.Review.{review_due}
 use Rattle.sizing.specs.Examples.{annex, annex_floor, no_review, review}
+use Rattle.admission.specs.Admission.{one_pool}
 use Rattle.waterfall.specs.Pools.{pooled_slip}
-use Rattle.worked.specs.Drills.{register, ranked, slip, one_pool, default1, default2, default3, answers, three-defaults}
+use Rattle.worked.specs.Drills.{register, ranked, slip, default1, default2, default3, answers, three-defaults}
 
 pub starred :
     -- "Split of 5 over 3, 3, 4: 1, 1, 3. Of 6: 1, 2, 3. Of 10: 3, 3, 4. Of 5 over 0, 5: 0, 5."

@@ -2,8 +2,8 @@
 
 use crate::bench_files::{register_sheet, OWN};
 use crate::engine::{
-    print_page, size, DefaultAnswer, Register, Split, DEFAULT_SLIP, MEMBERS, MOST_JUNIOR,
-    PAGE_BYTES,
+    print_page, size, DefaultAnswer, Placed, Register, Split, DEFAULT_SLIP, MEMBERS, MOST_JUNIOR,
+    PAGE_BYTES, RANGE_SLIP,
 };
 use std::ffi::OsString;
 use std::fs;
@@ -12,7 +12,7 @@ use std::io;
 
 /// The cases by name; `sizing` reads its two sheets from files.
 pub const CASES: &str =
-    "ranked, tied, calls, pools, page, whole, alone, ordinary, sizing STRESS SHARES";
+    "ranked, tied, calls, pools, range, page, whole, alone, ordinary, sizing STRESS SHARES";
 
 const DEFAULTER: u64 = 17;
 const PREVAILING: u64 = 70_000_000;
@@ -24,6 +24,7 @@ pub fn bench(case: &str, repetitions: u64, files: &[OsString]) -> io::Result<Opt
         ("ranked" | "tied" | "calls" | "pools", []) => {
             Some(repeat_default(&DefaultCase::named(case), repetitions))
         }
+        ("range", []) => Some(repeat_range(&DefaultCase::named("ranked"), repetitions)),
         ("page", []) => Some(repeat_page(repetitions)),
         ("whole" | "alone" | "ordinary", []) => Some(repeat_split(case, repetitions)),
         ("sizing", [stress, shares]) => {
@@ -92,12 +93,21 @@ fn ranks_of_four() -> Vec<u8> {
     (1..=4).flat_map(pool).collect()
 }
 
-/// One member's charge and call stand for the slip, another's each turn, so that folding stays cheap.
+/// The six layers, the call that falls, and the shortfall.
+fn fold_placed(sum: u64, placed: Placed, fallen: u64) -> u64 {
+    let sum = placed.layers.into_iter().fold(sum, fold);
+    fold(fold(sum, fallen), placed.short)
+}
+
+/// One member's charges and calls stand for the slip, another's each turn, so that folding stays cheap.
+fn fold_slip<const N: usize>(sum: u64, slip: &[u64; N], place: usize) -> u64 {
+    let parts = black_box(slip).chunks_exact(MEMBERS);
+    parts.fold(sum, |sum, part| fold(sum, part[place]))
+}
+
 fn fold_default(sum: u64, answer: &DefaultAnswer, slip: &[u64; DEFAULT_SLIP], place: usize) -> u64 {
-    let sum = answer.layers.iter().fold(sum, |sum, &l| fold(sum, l));
-    let sum = fold(fold(sum, answer.fallen), answer.short);
-    let slip = black_box(slip);
-    fold(fold(sum, slip[place]), slip[MEMBERS + place])
+    let sum = fold_placed(sum, (*answer).into(), answer.fallen);
+    fold_slip(sum, slip, place)
 }
 
 /// The first pool's loss rises a little with the turn, so that no turn is like the one before.
@@ -112,6 +122,25 @@ fn repeat_default(case: &DefaultCase, repetitions: u64) -> u64 {
             .expect("a good default");
         black_box(&register);
         fold_default(sum, &answer, &slip, turn as usize % MEMBERS)
+    })
+}
+
+/// How far the low loss of a range is below its high.
+const APART: u64 = 1_000_000;
+
+/// The range ends at the loss, and both its ends rise a little with the turn. One slip is lent to every turn.
+fn repeat_range(case: &DefaultCase, repetitions: u64) -> u64 {
+    let mut slip = [0; RANGE_SLIP];
+    (0..repetitions).fold(0, |sum, turn| {
+        let register = black_box(&case.register);
+        let high = case.losses[0] + turn % 8;
+        let answer = register
+            .ends(DEFAULTER, [high - APART, high], &case.ranks, &mut slip)
+            .expect("a good range");
+        let fallen = register.outstanding[DEFAULTER as usize - 1] as u64;
+        let sum = fold_placed(sum, answer.low, fallen);
+        let sum = fold_placed(sum, answer.high, fallen);
+        fold_slip(sum, &slip, turn as usize % MEMBERS)
     })
 }
 
@@ -234,6 +263,30 @@ mod tests {
             assert_eq!(layers(case), [true, true, true, true, false, false]);
         }
         assert_eq!(layers("calls"), [true; 6]);
+    }
+
+    /// Each end is what a default of that loss comes to.
+    #[test]
+    fn the_ends_of_the_range_in_turn() {
+        let case = DefaultCase::named("ranked");
+        assert_eq!(repeat_range(&case, 0), 0);
+        let mut sum = 0;
+        for turn in 0..70 {
+            let high = 64_411_573 + turn % 8;
+            let mut folded = Vec::new();
+            for loss in [high - 1_000_000, high] {
+                let mut slip = [0; DEFAULT_SLIP];
+                let mut register = case.register.clone();
+                let answer = register.default(17, &[loss], &case.ranks, &mut slip);
+                let answer = answer.expect("a good default");
+                sum = answer.layers.iter().fold(sum, |sum, &l| fold(sum, l));
+                sum = fold(fold(sum, answer.fallen), answer.short);
+                let place = turn as usize % 64;
+                folded.extend([slip[place], slip[64 + place]]);
+            }
+            sum = folded.into_iter().fold(sum, fold);
+            assert_eq!(repeat_range(&case, turn + 1), sum);
+        }
     }
 
     #[test]

@@ -94,15 +94,16 @@ impl Case {
         }
     }
 
-    /// Statement 3 on each drill, and request 6 on a pair of them, counted from what the program under test printed.
+    /// Statement 3 and request 7 on each drill, both ends of one range on a pair of them, and request 6
+    /// there, counted from what the program under test printed.
     fn count(&self, ran: &[Ran], coverage: &mut Coverage) -> Result<(), String> {
         match self {
-            Case::Drill(case) => coverage.add_tally(statement3(case, printed(&ran[0])?)?),
+            Case::Drill(case) => coverage.add_tally(count_drill(case, printed(&ran[0])?)?),
             Case::Sizing(_) => {}
             Case::Pair(case, drills) => {
                 let texts = [printed(&ran[0])?, printed(&ran[1])?];
                 for (drill, text) in drills.iter().zip(texts) {
-                    statement3(drill, text)?;
+                    count_drill(drill, text)?;
                 }
                 let tally = ledger::count_raised(case, texts);
                 coverage.add_raised(tally.map_err(|why| format!("request 6: {why}"))?);
@@ -131,9 +132,9 @@ fn printed(ran: &Ran) -> Result<&str, String> {
     std::str::from_utf8(&ran.stdout).map_err(|e| e.to_string())
 }
 
-fn statement3(case: &DrillCase, printed: &str) -> Result<Tally, String> {
-    let counted = ledger::unaltered(printed).and_then(|()| ledger::count(case, printed));
-    counted.map_err(|why| format!("statement 3: {why}"))
+fn count_drill(case: &DrillCase, printed: &str) -> Result<Tally, String> {
+    ledger::unaltered(printed)?;
+    ledger::count(case, printed)
 }
 
 fn describe_drill(case: &DrillCase) -> String {
@@ -199,6 +200,7 @@ pub fn compare(options: &Options) -> io::Result<bool> {
     let mut unreached = Vec::new();
     if options.only.is_none() && options.drills >= MANY {
         unreached.extend(coverage.unreached());
+        unreached.extend(coverage.unreached_ranges());
     }
     if options.only.is_none() && options.sizings >= MANY {
         unreached.extend(coverage.unreached_groups());
@@ -304,4 +306,65 @@ pub fn difference(expected: &[u8], got: &[u8]) -> String {
 
 fn lossy(bytes: &[u8]) -> String {
     String::from_utf8_lossy(bytes).into_owned()
+}
+
+#[cfg(test)]
+mod tests {
+    use super::*;
+    use crate::generate::example_register;
+
+    /// Document 01's register, and its first default with two losses.
+    fn pair() -> Case {
+        let case = RaisedCase {
+            sheet: example_register(),
+            own: 22_000,
+            calls: "register\n".into(),
+            member: 1,
+            ranks: "2:1 3:2 4:2".into(),
+            losses: [90_000, 160_000],
+        };
+        let drills = case.drills();
+        Case::Pair(case, drills)
+    }
+
+    /// What does not hold of the pair, once something is changed in what its drills printed.
+    fn fault(changes: [&[[&str; 2]]; 2]) -> String {
+        let case = pair();
+        let mut ran = Vec::new();
+        for (text, changes) in case.expected().into_iter().zip(changes) {
+            let mut text = String::from_utf8(text).unwrap();
+            for [from, to] in changes {
+                assert!(text.contains(from), "{text}");
+                text = text.replacen(from, to, 1);
+            }
+            ran.push(Ran {
+                stdout: text.into(),
+                stderr: Vec::new(),
+                fault: None,
+            });
+        }
+        let counted = case.count(&ran, &mut Coverage::default());
+        counted.err().unwrap_or_default()
+    }
+
+    #[test]
+    fn a_fault_says_of_what_it_is() {
+        assert_eq!(fault([&[], &[]]), "");
+        assert_eq!(
+            fault([&[["tranche2 8800", "tranche2 8801"]], &[]]),
+            "line 1: statement 3: tranche 2: 8800 is not 0 + 8801"
+        );
+        let moved: &[_] = &[
+            ["charged 2266 to", "charged 2265 to"],
+            ["charged 4534 to", "charged 4535 to"],
+        ];
+        assert_eq!(
+            fault([moved, moved]),
+            "line 3: request 7: with loss 90000 of 90000 to 160000 member 4's charge is 4534, below 4535"
+        );
+        assert_eq!(
+            fault([&[["requirement 20000", "requirement 20001"]], &[]]),
+            "request 6: the drills differ before their last default"
+        );
+    }
 }

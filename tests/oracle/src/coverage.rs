@@ -2,11 +2,11 @@
 
 use crate::engine::{cover, MAX_AMOUNT, MOST_JUNIOR, RECORD};
 use crate::generate::SizingCase;
-use crate::ledger::{RaisedTally, Tally};
+use crate::ledger::{add, Apart, Tally, RANGE_REFUSALS};
 
 #[derive(Clone, Default)]
 pub struct Coverage {
-    refusals: [u64; 23],
+    refusals: [u64; 25],
     layers: [u64; 6],
     fallen: u64,
     shortfalls: u64,
@@ -18,7 +18,7 @@ pub struct Coverage {
     pages: u64,
     no_pages: u64,
     tally: Tally,
-    raised: RaisedTally,
+    raised: Apart,
 }
 
 /// What groups did in sizings.
@@ -111,17 +111,11 @@ impl Coverage {
         self.tally.all_called += tally.all_called;
         self.tally.later_loss += tally.later_loss;
         self.tally.later_rank += tally.later_rank;
+        self.tally.ranges.add(tally.ranges);
     }
 
-    pub fn add_raised(&mut self, tally: RaisedTally) {
-        self.raised.pairs += tally.pairs;
-        self.raised.equal += tally.equal;
-        self.raised.by_one += tally.by_one;
-        self.raised.fallen += tally.fallen;
-        add(&mut self.raised.layers, tally.layers);
-        self.raised.shorter += tally.shorter;
-        add(&mut self.raised.more, tally.more);
-        add(&mut self.raised.same, tally.same);
+    pub fn add_raised(&mut self, tally: Apart) {
+        self.raised.add(tally);
     }
 
     pub fn merge(&mut self, other: &Coverage) {
@@ -208,6 +202,57 @@ impl Coverage {
         ])
     }
 
+    /// What many drills come to in their ranges, and these never did.
+    pub fn unreached_ranges(&self) -> Vec<&'static str> {
+        let r = &self.tally.ranges;
+        let e = &r.ends;
+        never(&[
+            ("an accepted range", e.pairs),
+            ("a range of one loss", e.equal),
+            ("a range of two losses", e.by_one),
+            ("a range beside a fallen call", e.fallen),
+            ("a range over which layer 1 differs", e.layers[0]),
+            ("a range over which layer 2 differs", e.layers[1]),
+            ("a range over which layer 3 differs", e.layers[2]),
+            ("a range over which layer 4 differs", e.layers[3]),
+            ("a range over which layer 5 differs", e.layers[4]),
+            ("a range over which layer 6 differs", e.layers[5]),
+            ("a range over which the shortfall differs", e.shorter),
+            ("a member's charge of two ends above zero", e.more[0]),
+            ("a member's call of two ends above zero", e.more[1]),
+            (
+                "a member's charge of one end where layer 4 has two",
+                e.same[0],
+            ),
+            (
+                "a member's call of one end where layer 6 has two",
+                e.same[1],
+            ),
+            ("a range refused 11", r.refused[0]),
+            ("a range refused 12", r.refused[1]),
+            ("a range refused 23", r.refused[2]),
+            ("a range refused 13", r.refused[3]),
+            ("a range refused 15", r.refused[4]),
+            (
+                "a range refused 23 with too high a high",
+                r.crossed_too_high,
+            ),
+            ("a register before and after a range", r.registers),
+            ("a page after a range", r.pages),
+            ("no page after a range", r.no_pages),
+            ("a default after its range with the low loss", r.followed[0]),
+            (
+                "a default after its range with the high loss",
+                r.followed[1],
+            ),
+            (
+                "a default after its range with a loss between",
+                r.followed[2],
+            ),
+            ("a default refused as its range was", r.refused_alike),
+        ])
+    }
+
     fn add_refusal(&mut self, number: &str) {
         if let Ok(number) = number.parse::<usize>() {
             self.refusals[number] += 1;
@@ -226,7 +271,7 @@ impl Coverage {
 
     pub fn print(&self) {
         println!("refusal  times");
-        for number in 1..=22 {
+        for number in 1..=24 {
             println!("{number:>7}  {}{}", self.refusals[number], remark(number));
         }
         println!("layer    accepted defaults that drew on it");
@@ -287,8 +332,34 @@ impl Coverage {
             "of them where a member was charged more: {}, called for more: {}; as much, though its layer gave more: {}, {}",
             r.more[0], r.more[1], r.same[0], r.same[1]
         );
+        self.print_ranges();
         println!("unreadable lines: {}", self.unreadable);
         println!("pages: {}, no page: {}", self.pages, self.no_pages);
+    }
+
+    fn print_ranges(&self) {
+        let r = &self.tally.ranges;
+        let e = &r.ends;
+        println!(
+            "accepted ranges: {}; of one loss: {}, of two: {}, beside a fallen call: {}",
+            e.pairs, e.equal, e.by_one, e.fallen
+        );
+        println!(
+            "of them by layer, where its ends differ: {:?}; where those of the shortfall do: {}",
+            e.layers, e.shorter
+        );
+        println!(
+            "of them where a member's charge has two ends above zero: {}, its call: {}; one end, though its layer has two: {}, {}",
+            e.more[0], e.more[1], e.same[0], e.same[1]
+        );
+        println!(
+            "refused ranges by number, {RANGE_REFUSALS:?}: {:?}; 23 with too high a high: {}",
+            r.refused, r.crossed_too_high
+        );
+        println!(
+            "after accepted ranges, registers: {}, pages: {}, no page: {}; their defaults with the low loss, the high, one between: {:?}; refused alike: {}",
+            r.registers, r.pages, r.no_pages, r.followed, r.refused_alike
+        );
     }
 }
 
@@ -303,19 +374,13 @@ fn group_at(case: &SizingCase, place: usize) -> Option<u8> {
     case.stress.get(at + 6).copied()
 }
 
-/// Adds numbers to others, place by place.
-fn add<const N: usize>(sums: &mut [u64; N], more: [u64; N]) {
-    sums.iter_mut()
-        .zip(more)
-        .for_each(|(sum, more)| *sum += more);
-}
-
 /// Refusals that no program can be brought to print.
 fn remark(number: usize) -> &'static str {
     match number {
         3 | 14 => "  (the programs always hand whole slips and ranks)",
         19 => "  (no part split is above its total)",
         20 => "  (the programs always hand a whole page, and no drill's amount is above its limit)",
+        24 => "  (run_drill always hands a whole range slip)",
         _ => "",
     }
 }
@@ -352,7 +417,7 @@ mod tests {
             let [low, high] = case.drills().map(|drill| printed(&drill));
             coverage.add_raised(count_raised(&case, [&low, &high]).unwrap());
         }
-        for number in 1..=22 {
+        for number in 1..=24 {
             let reached = coverage.refusals[number] > 0;
             assert_eq!(reached, remark(number).is_empty(), "refusal {number}");
         }
@@ -374,6 +439,11 @@ mod tests {
         assert!(coverage.groups.raised > 100 && coverage.groups.beyond_two > 5);
         assert_eq!(coverage.unreached_raised(), [""; 0]);
         assert!(coverage.raised.pairs > 500 && coverage.raised.fallen > 20);
+        assert_eq!(coverage.unreached_ranges(), [""; 0]);
+        let ranges = &coverage.tally.ranges;
+        assert!(ranges.ends.pairs > 500 && ranges.ends.fallen > 20);
+        assert!(ranges.refused.iter().all(|&times| times > 20));
+        assert!(ranges.followed.iter().all(|&times| times > 50));
     }
 
     #[test]
@@ -382,6 +452,7 @@ mod tests {
         assert_eq!(coverage.unreached().len(), 16);
         assert_eq!(coverage.unreached_groups().len(), 5);
         assert_eq!(coverage.unreached_raised().len(), 14);
+        assert_eq!(coverage.unreached_ranges().len(), 28);
         coverage.add_output("refused 21\nrefused 22\n");
         coverage.add_tally(Tally {
             pools: [1; 5],
@@ -397,7 +468,7 @@ mod tests {
         assert_eq!(coverage.unreached(), ["three pools", "the last tie"]);
     }
 
-    /// Before any default, straight after one and after refused ones, twice, and later.
+    /// Before any default, straight after one and after refused ones, twice, later, and after ranges.
     #[test]
     fn the_generator_asks_for_pages_everywhere() {
         let all: String = (0..1_000).map(drilled).collect();
@@ -414,6 +485,10 @@ mod tests {
             "refused 15\nLAYER",
             "SHORT                                  0\nLAYER",
             "\naccepted\nLAYER",
+            " to 0\nLAYER",
+            " to 0\nno page\n",
+            "refused 23\nLAYER",
+            "refused 23\nno page\n",
         ];
         for place in places {
             assert!(all.contains(place), "{place}");

@@ -16,7 +16,9 @@ use crate::text::run_drill;
 
 /// A register sheet, own contribution and the drill's lines.
 ///
-/// A `register` line follows every default and the last call, with nothing but pages between.
+/// A `register` line follows every default and the last call, with nothing but pages between. Of the
+/// ranges, which are no calls, many have a default of their member, ranks and a loss of theirs after
+/// them, with at most pages and registers between.
 pub struct DrillCase {
     pub sheet: Vec<u8>,
     pub own: u64,
@@ -33,10 +35,12 @@ impl DrillCase {
 }
 
 /// Two drills alike up to their last default, of one pool, which has a smaller and a larger loss.
+///
+/// The range of these losses stands before it in both, so that each default reaches one of its ends.
 pub struct RaisedCase {
     pub sheet: Vec<u8>,
     pub own: u64,
-    /// The calls before that default, a `register` line last.
+    /// The calls before that range and default, a `register` line last.
     pub calls: Vec<u8>,
     pub member: u64,
     pub ranks: String,
@@ -46,13 +50,14 @@ pub struct RaisedCase {
 impl RaisedCase {
     /// The drill with the smaller loss, and that with the larger.
     pub fn drills(&self) -> [DrillCase; 2] {
-        let (member, ranks) = (self.member, &self.ranks);
+        let (member, [low, high], ranks) = (self.member, self.losses, &self.ranks);
+        let range = format!("range {member} {low} {high} {ranks}\n");
         self.losses.map(|loss| {
-            let last = format!("default {member} {loss} {ranks}\nregister\n");
+            let default = format!("default {member} {loss} {ranks}\nregister\n");
             DrillCase {
                 sheet: self.sheet.clone(),
                 own: self.own,
-                calls: [&self.calls, last.as_bytes()].concat(),
+                calls: [&self.calls, range.as_bytes(), default.as_bytes()].concat(),
             }
         })
     }

@@ -1,17 +1,23 @@
-//! Counts statement 3 on a drill, and request 6 on two of them, from what was handed in and what was printed.
+//! Counts statement 3 on a drill, request 7 on its ranges, and request 6 on two drills, from what was
+//! handed in and what was printed.
 //!
 //! Nothing here asks the engine: sums come from the calls and the printed answers,
 //! and what is held or outstanding from the printed registers. What each pool charges is not
 //! printed, and is counted by the rules. A printed page is held to the printed answer of the
 //! latest accepted default.
 
+mod answer;
 mod page;
 mod pools;
 mod raised;
+mod range;
 
+pub use self::answer::Apart;
 use self::page::read_page;
 use self::pools::{ByMember, Charged, Found};
-pub use self::raised::{count_raised, RaisedTally};
+pub use self::raised::count_raised;
+pub use self::range::RANGE_REFUSALS;
+use self::range::{Asked, RangeTally};
 use crate::engine::{Call, MAX_SUM, MEMBERS, MOST_JUNIOR, RECORD};
 use crate::generate::DrillCase;
 use crate::text::{read_line, Lines, Reading};
@@ -49,6 +55,7 @@ pub struct Tally {
     pub later_loss: u64,
     /// Defaults refused with 15 for a later pool alone.
     pub later_rank: u64,
+    pub ranges: RangeTally,
 }
 
 /// A member: its sheet figures and what has been added up for it.
@@ -95,7 +102,18 @@ struct Ledger {
     /// The layers and the shortfall of the latest accepted default.
     latest: Option<[Sum; 7]>,
     unseen: bool,
+    /// Whether a register was shown since a call was last accepted.
+    shown: bool,
+    /// The ranges since a call was last accepted.
+    ranges: Vec<Asked>,
     tally: Tally,
+}
+
+/// Adds numbers to others, place by place.
+pub fn add<const N: usize>(sums: &mut [u64; N], more: [u64; N]) {
+    sums.iter_mut()
+        .zip(more)
+        .for_each(|(sum, more)| *sum += more);
 }
 
 /// How an accepted default is printed.
@@ -122,12 +140,12 @@ pub fn count(case: &DrillCase, printed: &str) -> Counted<Tally> {
     Ok(ledger.tally)
 }
 
-/// Refused calls and unreadable lines alter no printed register, and only defaults the page.
+/// Refused calls, ranges and unreadable lines alter no printed register, and only defaults the page.
 pub fn unaltered(printed: &str) -> Counted {
     let (mut register, mut page) = (None, None);
     let mut lines = printed.lines().peekable();
     while let Some(line) = lines.next() {
-        if line.starts_with("accepted") {
+        if line.starts_with("accepted") && !line.starts_with("accepted low ") {
             register = None;
         }
         if line.starts_with("accepted fallen ") {
@@ -171,7 +189,13 @@ fn ensure(holds: bool, why: impl FnOnce() -> String) -> Counted {
     }
 }
 
+/// Says of what it is that something does not hold.
+fn fault_of(what: &str, counted: Counted) -> Counted {
+    counted.map_err(|why| format!("{what}: {why}"))
+}
+
 /// The printed answers, read line by line against patterns.
+#[derive(Clone)]
 struct Printed<'a>(Peekable<std::str::Lines<'a>>);
 
 impl Printed<'_> {
@@ -236,13 +260,24 @@ impl Ledger {
     }
 
     fn step(&mut self, reading: Reading, printed: &mut Printed) -> Counted {
-        let call = match reading {
-            Reading::Nothing => return Ok(()),
-            Reading::Unreadable => return printed.take::<1>("unreadable line #").map(drop),
-            Reading::Register => return self.show(printed),
-            Reading::Page => return self.show_page(printed),
-            Reading::Call(call) => call,
-        };
+        match reading {
+            Reading::Nothing => Ok(()),
+            Reading::Unreadable => printed.take::<1>("unreadable line #").map(drop),
+            Reading::Register => fault_of("statement 3", self.show(printed)),
+            Reading::Page => fault_of("request 1", self.show_page(printed)),
+            Reading::Range {
+                member,
+                losses,
+                ranks,
+            } => fault_of("request 7", self.range(member, losses, ranks, printed)),
+            Reading::Call(call) => {
+                fault_of("request 7", self.within_ranges(&call, printed))?;
+                fault_of("statement 3", self.call(call, printed))
+            }
+        }
+    }
+
+    fn call(&mut self, call: Call, printed: &mut Printed) -> Counted {
         if let Call::Default { losses, .. } = &call {
             self.tally.pools[pools_place(losses)] += 1;
         }
@@ -253,7 +288,8 @@ impl Ledger {
         ensure(self.awaiting.is_none(), || {
             "no register since the default".into()
         })?;
-        self.unseen = true;
+        (self.unseen, self.shown) = (true, false);
+        self.ranges.clear();
         match call {
             Call::Default {
                 member,
@@ -424,11 +460,14 @@ impl Ledger {
     }
 
     /// Reads a printed page and holds it to the latest accepted default.
-    fn show_page(&self, printed: &mut Printed) -> Counted {
+    fn show_page(&mut self, printed: &mut Printed) -> Counted {
+        let after_range = self.after_range(|_| true);
         let Some(latest) = self.latest else {
+            self.tally.ranges.no_pages += after_range as u64;
             return printed.take::<0>("no page").map(drop);
         };
         let shown = read_page(&mut printed.0)?;
+        self.tally.ranges.pages += after_range as u64;
         ensure(shown == latest, || {
             format!("the page shows {shown:?}, and the latest default {latest:?}")
         })
@@ -437,7 +476,8 @@ impl Ledger {
     /// Reads a printed register and holds every sum against it.
     fn show(&mut self, printed: &mut Printed) -> Counted {
         let shown = self.read_register(printed)?;
-        self.unseen = false;
+        self.tally.ranges.registers += self.after_range(|range| range.shown) as u64;
+        (self.unseen, self.shown) = (false, true);
         let (handed, placed) = (self.losses + self.fallen, self.charges + self.shortfalls);
         ensure(handed == placed, || {
             format!("losses and fallen calls {handed}, charges and shortfalls {placed}")
@@ -861,6 +901,10 @@ mod tests {
         assert!(unaltered(&[shown, "refused 16\n", shown].concat()).is_ok());
         assert!(unaltered(&[shown, "refused 16\n", changed].concat()).is_err());
         assert!(unaltered(&[shown, "accepted\n", changed].concat()).is_ok());
+        let range = "accepted low layers 0 0 0 0 0 0 short 0 high layers 0 0 0 0 0 0 short 5\n  \
+              member 3 charged 0 to 0 called 0 to 5\n";
+        assert!(unaltered(&[shown, range, shown].concat()).is_ok());
+        assert!(unaltered(&[shown, range, changed].concat()).is_err());
     }
 
     #[test]
@@ -868,7 +912,8 @@ mod tests {
         let good = printed(&example());
         let pages: Vec<&str> = pages(&good).into_iter().map(|at| &good[at]).collect();
         let default = "accepted fallen 0 layers 0 0 0 0 0 0 short 0\n";
-        for between in ["refused 16\n", "unreadable line 2\n", "accepted\n"] {
+        let range = "accepted low layers 0 0 0 0 0 0 short 0 high layers 0 0 0 0 0 0 short 5\n";
+        for between in ["refused 16\n", "unreadable line 2\n", "accepted\n", range] {
             for (first, second) in [(pages[0], pages[1]), ("no page\n", pages[0])] {
                 assert!(unaltered(&[first, between, first].concat()).is_ok());
                 assert!(unaltered(&[first, between, second].concat()).is_err());

@@ -13,19 +13,27 @@ use std::ffi::OsString;
 use std::fs::{self, File};
 use std::io;
 
-/// A drill that reaches every call, with remarks, blanks and unreadable lines.
+/// A drill that reaches every call, with ranges, remarks, blanks and unreadable lines.
 pub const GOOD_CALLS: &str = "\
 # a drill
 page
 register
+range 1 80000 180000 2:1 3:2 4:2
 default 1 100000 2:1 3:2 4:2
 register
 
+range 1 5 6 / 7
 payment 2 5
 page
 replenishment 4 0000200   # a little
 default 3 60000 2:1 4:1 1: 64:255
 register
+range 2 0 0500 4:1 1: 64:255   # beside a fallen call
+range 2 500 499 4:1
+range 2 0 25600000001
+range 2 0 25600000000 4:
+range 3 0 1 2:1
+range 5 1 0
 close
 payment 2 3000
 payment 2 18446744073709551616
@@ -134,7 +142,7 @@ pub fn all(runner: &Runner, seed: u64) -> io::Result<Vec<Trial>> {
     maker.long_lines();
     maker.odd_bytes();
     maker.unreadable_lines();
-    maker.spoilt_pools();
+    maker.spoilt_lines();
     maker.random_input();
     maker.random_sheets();
     maker.made_sheets();
@@ -173,7 +181,8 @@ impl Maker<'_> {
 
     fn drill_sheet(&mut self, name: &str, sheet: Vec<u8>) {
         let arguments = vec![self.file("tried.sheet"), "22".into()];
-        let stdin = b"register\npage\nclose\ndefault 1 5 2:1 / 6 2:1\npayment 1 1\npage\n";
+        let stdin = b"register\npage\nclose\nrange 1 5 60000 2:1\n\
+            default 1 5 2:1 / 6 2:1\npayment 1 1\npage\n";
         self.push(name, "run_drill", arguments, stdin);
         self.last_files(vec![("tried.sheet", sheet)]);
     }
@@ -249,6 +258,11 @@ impl Maker<'_> {
                 fill("default 2 5 3:1 4:2", b' ', "/"),
                 fill("default 2 5 3:1 4:2 / 6 3:1 4:2 ", b'/', ""),
                 many_pools(length),
+                fill("range 2 5 ", b' ', "6 3:1 4:2"),
+                fill("range 2 5 ", b'0', "6 3:1 4:2"),
+                fill("range 2 5 6 3:", b'0', "1 4:2"),
+                fill("range 2 5 6 3:1 4:2", b' ', "/"),
+                fill("range 2 5 6 3:1 4:2 ", b'9', ""),
                 fill("page", b' ', ""),
             ];
             for line in lines {
@@ -296,7 +310,7 @@ impl Maker<'_> {
                 self.make(name, kind, lines.replace(from, to).as_bytes());
             }
         }
-        let lines: [&[u8]; 19] = [
+        let lines: [&[u8]; 25] = [
             b"\xef\xbb\xbfclose",
             b"close\0",
             b"close#\0\xff",
@@ -316,6 +330,12 @@ impl Maker<'_> {
             b"default 2 5 3:1 4:1 /\r",
             b"default 2 5 3:1 4:1 \xef\xbc\x8f 6 3:1 4:1",
             b"default 2 5 3:1 4:1 \\ 6 3:1 4:1",
+            b"range 2 5\t6 3:1 4:1",
+            b"range 2 5 6\0",
+            b"range 2 5 6 3:1 4:1\r",
+            b"range\0 2 5 6 3:1 4:1",
+            b"range 2 5\xe2\x80\x936 3:1 4:1",
+            b"range 2 5 6\xc2\xa03:1 4:1",
         ];
         for line in lines {
             self.drill_about("odd bytes", line);
@@ -330,22 +350,26 @@ impl Maker<'_> {
         }
     }
 
-    /// A good default of two pools with one byte taken out, put in or changed.
-    fn spoilt_pools(&mut self) {
-        let good = b"default 2 500 3:1 4:2 / 60 4:2 3:1";
+    /// A good default of two pools, and a good range, with one byte taken out, put in or changed.
+    fn spoilt_lines(&mut self) {
+        self.spoil("spoilt pools", b"default 2 500 3:1 4:2 / 60 4:2 3:1");
+        self.spoil("spoilt range", b"range 2 50 60 3:1 4:2");
+    }
+
+    fn spoil(&mut self, name: &str, good: &[u8]) {
         for at in 0..good.len() {
             let with = |middle: &[u8], end: usize| [&good[..at], middle, &good[end..]].concat();
             let mut lines = vec![with(b"", at + 1), with(b"/", at), with(b" / ", at)];
             lines.extend(b"/ :0#".map(|byte| with(&[byte], at + 1)));
             for line in lines {
-                self.drill_about("spoilt pools", &line);
+                self.drill_about(name, &line);
             }
         }
     }
 
     fn random_input(&mut self) {
         let words =
-            b"default payment replenishment close register page 0123456789 :::  // #,,\n\n\n\r\0";
+            b"default payment replenishment close register page range 0123456789 :::  // #,,\n\n\n\r\0";
         for _ in 0..150 {
             let length = self.rng.below(400) as usize;
             let any: Vec<u8> = (0..length).map(|_| self.rng.next() as u8).collect();
@@ -519,7 +543,7 @@ impl Maker<'_> {
         let shares = self.file("shares.sheet");
         for name in names {
             let file = self.file(name);
-            let stdin = b"close\nregister\ndefault 1 5\npage\n";
+            let stdin = b"close\nregister\nrange 1 5 6\ndefault 1 5\npage\n";
             self.push(name, "run_drill", vec![file.clone(), zero.clone()], stdin);
             for sheets in [[&file, &shares], [&stress, &file], [&file, &file]] {
                 let all = sheets.into_iter().chain([&zero, &zero]).cloned();

@@ -1,7 +1,10 @@
 //! The rules of the default fund and its loss waterfall, written for speed: nothing here allocates.
 
+#[cfg(test)]
+mod examples;
 mod page;
 mod pools;
+mod range;
 mod register;
 mod sheet;
 mod sizing;
@@ -12,6 +15,7 @@ mod waterfall;
 #[cfg(test)]
 pub use page::FIRST_PAGE;
 pub use page::{print_page, PAGE_BYTES};
+pub use range::{Placed, RangeAnswer, RANGE_SLIP};
 pub use register::{Call, Register};
 pub use sheet::{MEMBER_SHEET_BYTES, RECORD, STRESS_SHEET_BYTES};
 pub use sizing::{review, size};

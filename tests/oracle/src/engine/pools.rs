@@ -6,6 +6,7 @@ use super::waterfall::draw;
 use super::{Places, MEMBERS, MOST_JUNIOR};
 
 /// Members sorted by juniorisation rank: for each rank the bits of its members.
+#[derive(Clone)]
 pub struct Ranked {
     members: [u64; MOST_JUNIOR as usize],
     /// The bits of the ranks not yet charged.

@@ -30,7 +30,7 @@ fn draw_amount(pocket: &mut u32, left: &mut u64) -> u64 {
 
 /// Refusal 13 for the loss of any pool, 22 for the losses together.
 #[inline]
-fn check_losses(losses: &[u64]) -> Result<(), u8> {
+pub fn check_losses(losses: &[u64]) -> Result<(), u8> {
     if losses.iter().any(|&loss| loss > MAX_SUM) {
         return Err(13);
     }
@@ -42,7 +42,7 @@ fn check_losses(losses: &[u64]) -> Result<(), u8> {
 
 /// The ranks of each pool, if there are 64 of each.
 #[inline]
-fn split_ranks<const POOLS: usize>(ranks: &[u8]) -> Option<&[[u8; MEMBERS]; POOLS]> {
+pub fn split_ranks<const POOLS: usize>(ranks: &[u8]) -> Option<&[[u8; MEMBERS]; POOLS]> {
     let (pools, rest) = ranks.as_chunks();
     pools.try_into().ok().filter(|_| rest.is_empty())
 }
@@ -78,13 +78,44 @@ impl Register {
     ) -> Result<DefaultAnswer, u8> {
         check_losses(&losses)?;
         let ranks = split_ranks::<POOLS>(ranks).ok_or(14)?;
-        let slip = slip.get_mut(..DEFAULT_SLIP).ok_or(14)?;
-        let others = Places(self.live & !(1 << place));
+        let slip = slip.first_chunk_mut().ok_or(14)?;
+        let others = self.others(place);
         let mut ranked = [const { Ranked::NONE }; POOLS];
         for (ranked, ranks) in ranked.iter_mut().zip(ranks) {
             ranked.sort(others, ranks)?;
         }
+        Ok(self.allocate(place, losses, &mut ranked, slip))
+    }
 
+    /// The live members but the one at `place`.
+    #[inline]
+    pub fn others(&self, place: usize) -> Places {
+        Places(self.live & !(1 << place))
+    }
+
+    /// What each layer holds for a default of the member at `place`.
+    pub fn layer_sums(&self, place: usize) -> [u64; 6] {
+        let others = self.others(place);
+        [
+            self.margin[place] as u64,
+            self.contribution[place] as u64,
+            self.tranche1,
+            Register::sum(others, &self.contribution),
+            self.tranche2,
+            Register::sum(others, &self.cap) - Register::sum(others, &self.called),
+        ]
+    }
+
+    /// Takes a default whose checks are past down the layers.
+    #[inline]
+    pub fn allocate<const POOLS: usize>(
+        &mut self,
+        place: usize,
+        losses: [u64; POOLS],
+        ranked: &mut [Ranked; POOLS],
+        slip: &mut [u64; DEFAULT_SLIP],
+    ) -> DefaultAnswer {
+        let others = self.others(place);
         slip.fill(0);
         let (charges, calls) = slip.split_at_mut(MEMBERS);
         let fallen = std::mem::take(&mut self.outstanding[place]) as u64;
@@ -98,15 +129,15 @@ impl Register {
             margin,
             contribution,
             tranche1,
-            self.charge(others, &mut ranked, sums, &mut left, charges),
+            self.charge(others, ranked, sums, &mut left, charges),
             draw(&mut self.tranche2, &mut left),
             self.call(others, &mut left, calls),
         ];
-        Ok(DefaultAnswer {
+        DefaultAnswer {
             fallen,
             layers,
             short: left,
-        })
+        }
     }
 
     /// Layer 6: calls on the others over the rest of their caps.
@@ -131,20 +162,8 @@ impl Register {
 #[cfg(test)]
 mod tests {
     use super::*;
-    use crate::engine::MISSING_RANK;
-    use crate::generate::{example_register, member_record};
-
-    fn example() -> Register {
-        Register::open(&example_register(), 22_000).unwrap()
-    }
-
-    fn ranks(given: &[(usize, u8)]) -> [u8; MEMBERS] {
-        let mut ranks = [MISSING_RANK; MEMBERS];
-        for &(member, rank) in given {
-            ranks[member - 1] = rank;
-        }
-        ranks
-    }
+    use crate::engine::examples::{example, ranks};
+    use crate::generate::member_record;
 
     #[test]
     fn tranches_of_22() {

@@ -8,7 +8,7 @@ use crate::rng::Rng;
 use crate::text::{Console, Line};
 
 /// Lines that are nothing, or (all but one) that no console can read.
-pub const NOISE: [&str; 63] = [
+pub const NOISE: [&str; 91] = [
     "",
     "   ",
     "# a remark",
@@ -72,6 +72,34 @@ pub const NOISE: [&str; 63] = [
     "page 1",
     "pages",
     "Page",
+    "range",
+    "range 1",
+    "range 1 5",
+    "range 1 5 # 6",
+    "range 1 5 2:1",
+    "range 1 5 x",
+    "range 1 -5 6",
+    "range 1 5-6 2:1",
+    "range 1 5 .. 6 2:1",
+    "range 1 18446744073709551616 6",
+    "range 1 5 18446744073709551616",
+    "range x 5 6",
+    "range 1 5 6 7",
+    "range 1 5 6 2",
+    "range 1 5 6 2:256",
+    "range 1 5 6 0:1",
+    "range 1 5 6 65:1",
+    "range 1 5 6 2:1 2:1",
+    "range 1 5 6 2: 2:",
+    "range 1 5 6 /",
+    "range 1 5 6 2:1 /",
+    "range 1 5 / 6 2:1",
+    "range 1 5 6 2:1 / 7 2:1",
+    "range 1 5 6 2:1 / 7 8 2:1",
+    "range / 1 5 6",
+    "ranges 1 5 6",
+    "Range 1 5 6",
+    "default 1 5 6 2:1",
 ];
 
 /// What a step of the drill does; tempers weigh these in this order.
@@ -87,9 +115,10 @@ enum Step {
     Noise,
     Show,
     Page,
+    Range,
 }
 
-const STEPS: [Step; 10] = [
+const STEPS: [Step; 11] = [
     Step::Default,
     Step::Payment,
     Step::Replenishment,
@@ -100,13 +129,14 @@ const STEPS: [Step; 10] = [
     Step::Noise,
     Step::Show,
     Step::Page,
+    Step::Range,
 ];
 
-const TEMPERS: [[u64; 10]; 4] = [
-    [30, 15, 12, 6, 10, 6, 6, 8, 3, 4],
-    [60, 5, 5, 2, 5, 2, 10, 3, 1, 2],
-    [30, 2, 2, 2, 25, 20, 10, 2, 1, 2],
-    [20, 15, 15, 10, 5, 5, 5, 25, 5, 6],
+const TEMPERS: [[u64; 11]; 4] = [
+    [30, 15, 12, 6, 10, 6, 6, 8, 3, 4, 12],
+    [60, 5, 5, 2, 5, 2, 10, 3, 1, 2, 12],
+    [30, 2, 2, 2, 25, 20, 10, 2, 1, 2, 12],
+    [20, 15, 15, 10, 5, 5, 5, 25, 5, 6, 8],
 ];
 
 pub fn drill(seed: u64) -> DrillCase {
@@ -216,6 +246,7 @@ impl Maker {
                 Step::Noise => self.noise(),
                 Step::Show => self.say(vec!["register".into()]),
                 Step::Page => self.say(vec!["page".into()]),
+                Step::Range => self.ask_range(),
             }
         }
     }
@@ -382,12 +413,63 @@ impl Maker {
             words.push(self.number(loss));
             words.extend(self.ranks(member, pool == faulty));
         }
+        self.say_default(words);
+    }
+
+    fn say_default(&mut self, mut words: Vec<String>) {
         if self.rng.chance(4) {
             self.spoil(&mut words);
         }
         self.say(words);
         self.perhaps_page(25);
         self.say(vec!["register".into()]);
+    }
+
+    /// Asks for a range, and often declares the default straight after it.
+    fn ask_range(&mut self) {
+        let member = self.defaulter();
+        let [low, high] = self.ends(member);
+        let faulty = self.rng.chance(self.faults);
+        let ranks = self.ranks(member, faulty);
+        let mut words = vec!["range".into(), self.number(member)];
+        words.extend([self.number(low), self.number(high)]);
+        words.extend_from_slice(&ranks);
+        if self.rng.chance(4) {
+            self.spoil(&mut words);
+        }
+        self.say(words);
+        self.perhaps_page(10);
+        if self.rng.chance(15) {
+            self.say(vec!["register".into()]);
+        }
+        if self.rng.chance(60) {
+            let loss = self.loss_between(low, high);
+            let mut words = vec!["default".into(), self.number(member), self.number(loss)];
+            words.extend(ranks);
+            self.say_default(words);
+        }
+    }
+
+    /// The ends of a range, in a few the low above the high, or the high above its limit, or both.
+    fn ends(&mut self, member: u64) -> [u64; 2] {
+        let [low, high] = self.two_losses(member);
+        let over = self.rng.pick(&[MAX_SUM + 1, MAX_SUM + 2, u64::MAX - 1]);
+        match self.rng.weighted(&[84, 7, 4, 2, 3]) {
+            0 => [low, high],
+            1 => [high.saturating_add(1), low],
+            2 => [low, over],
+            3 => [over, over],
+            _ => [over + 1, self.rng.pick(&[low, over])],
+        }
+    }
+
+    /// A loss of a range: its low, its high, or any.
+    fn loss_between(&mut self, low: u64, high: u64) -> u64 {
+        match self.rng.below(3) {
+            0 => low,
+            1 => high,
+            _ => low + self.rng.below(high.saturating_sub(low).saturating_add(1)),
+        }
     }
 
     /// Now and then a member that owes a call, which then falls.
@@ -446,7 +528,7 @@ impl Maker {
 
     /// A loss that takes nearly all of layer 4: rounding leaves a little of it to the last tie.
     fn nearly_all(&mut self, place: usize) -> u64 {
-        let sums = layer_sums(self.register(), place);
+        let sums = self.register().layer_sums(place);
         let fallen = self.register().outstanding[place] as u64;
         let loss = sums[..4].iter().sum::<u64>().saturating_sub(fallen);
         loss.saturating_sub(self.rng.below(9)).min(MAX_SUM)
@@ -460,7 +542,7 @@ impl Maker {
         }
         let other = self.rng.pick(&others);
         let register = self.register();
-        let to_layer_4 = layer_sums(register, place)[..3].iter().sum::<u64>();
+        let to_layer_4 = register.layer_sums(place)[..3].iter().sum::<u64>();
         let loss = to_layer_4 + register.contribution[other] as u64;
         loss.saturating_sub(register.outstanding[place] as u64)
             .min(MAX_SUM)
@@ -468,7 +550,7 @@ impl Maker {
 
     /// Losses beside a call that falls: none at all, about as much as others have, none in pool 1.
     fn beside(&mut self, place: usize, losses: &mut Vec<u64>) {
-        let theirs = layer_sums(self.register(), place)[3];
+        let theirs = self.register().layer_sums(place)[3];
         match self.rng.weighted(&[15, 40, 45]) {
             0 => losses.fill(0),
             1 => {
@@ -505,7 +587,7 @@ impl Maker {
         divided
     }
 
-    /// Spoils a default's words about a `/` of theirs, or anywhere.
+    /// Spoils the words of a default or a range about a `/` of theirs, or anywhere.
     fn spoil(&mut self, words: &mut Vec<String>) {
         let last = words.len() - 1;
         let slashes: Vec<usize> = (0..last).filter(|&at| words[at] == "/").collect();
@@ -519,7 +601,7 @@ impl Maker {
             1 => words.insert(at, "/".into()),
             2 => words[at] += "/",
             3 => drop(words.remove(at)),
-            4 => drop(words.remove(at + 1)), // the loss
+            4 => drop(words.remove(at + 1)), // behind a `/`, the loss
             5 => words.swap(at, at + 1),
             6 => words.push(words[last].clone()), // a second rank of one member
             7 => words.insert(0, "/".into()),
@@ -532,7 +614,7 @@ impl Maker {
 
     /// A loss aimed at a layer: at its boundary, inside it, near its ends, or past all.
     fn loss(&mut self, place: usize) -> u64 {
-        let sums = layer_sums(self.register(), place);
+        let sums = self.register().layer_sums(place);
         let layer = self.rng.weighted(&[4, 6, 8, 30, 12, 30]);
         let floor: u64 = sums[..layer].iter().sum();
         let ceiling = floor + sums[layer];
@@ -619,17 +701,4 @@ impl Maker {
 
 fn room(register: &Register, place: usize) -> u64 {
     (register.requirement[place] - register.contribution[place]) as u64
-}
-
-/// What each layer holds for a default of the member at `place`.
-fn layer_sums(r: &Register, place: usize) -> [u64; 6] {
-    let others = Places(r.live & !(1 << place));
-    [
-        r.margin[place] as u64,
-        r.contribution[place] as u64,
-        r.tranche1,
-        Register::sum(others, &r.contribution),
-        r.tranche2,
-        Register::sum(others, &r.cap) - Register::sum(others, &r.called),
-    ]
 }

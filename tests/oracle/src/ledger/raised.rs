@@ -1,99 +1,30 @@
 //! Counts document 02's request 6, "A larger loss, member by member", from what was printed of two
 //! drills that differ in the loss of their last default alone.
 
-use super::{ensure, Counted, Printed, Sum, DEFAULT_ANSWER, MEMBER_LINE};
+use super::answer::{Answer, Apart};
+use super::{ensure, Counted, Printed, Sum};
 use crate::generate::RaisedCase;
-use std::collections::BTreeMap;
 
-/// How many pairs of defaults were both accepted, and what the larger loss did in them.
-#[derive(Clone, Copy, Debug, Default)]
-pub struct RaisedTally {
-    pub pairs: u64,
-    /// Two equal losses.
-    pub equal: u64,
-    /// Losses one thousand apart.
-    pub by_one: u64,
-    /// Where a call had fallen.
-    pub fallen: u64,
-    /// By the layer, where it gave more.
-    pub layers: [u64; 6],
-    pub shorter: u64,
-    /// Where a member that was charged, or called, was so for more.
-    pub more: [u64; 2],
-    /// Where a member was charged, or called, for as much as before, though its layer gave more.
-    pub same: [u64; 2],
-}
-
-/// What a default printed: the members' layer 4 charges and calls by number.
-struct Answer {
-    fallen: Sum,
-    layers: [Sum; 6],
-    short: Sum,
-    members: BTreeMap<Sum, [Sum; 2]>,
-}
-
-/// Counts one pair, of which statement 3 was counted; an error says what does not hold.
-pub fn count_raised(case: &RaisedCase, printed: [&str; 2]) -> Counted<RaisedTally> {
+/// Counts one pair, whose drills were each counted before; an error says what does not hold.
+///
+/// What stands before the last default, the range of the two losses among it, is the same in both.
+pub fn count_raised(case: &RaisedCase, printed: [&str; 2]) -> Counted<Apart> {
     let [(before, low), (still, high)] = [last_default(printed[0])?, last_default(printed[1])?];
     ensure(before == still, || {
         "the drills differ before their last default".into()
     })?;
-    let (Some(low), Some(high)) = (read_answer(low)?, read_answer(high)?) else {
-        return Ok(RaisedTally::default());
+    let (Some((fallen, low)), Some((_, high))) = (read_answer(low)?, read_answer(high)?) else {
+        return Ok(Apart::default());
     };
     let apart = case.losses[1] - case.losses[0];
-    at_least_as_much(&low, &high)?;
-    let (less, most) = (low.placed(), high.placed());
+    low.at_most(&high, |what, low, high| {
+        format!("{what} is {low}, and {high} with the larger loss")
+    })?;
+    let (less, most) = (low.total(), high.total());
     ensure(most == less + apart as Sum, || {
         format!("charges and shortfall are {less} and {most}, the losses {apart} apart")
     })?;
-    Ok(tally(apart, &low, &high))
-}
-
-fn at_least_as_much(low: &Answer, high: &Answer) -> Counted {
-    let not_less = |what: &str, low: Sum, high: Sum| {
-        ensure(low <= high, || {
-            format!("{what} is {low}, and {high} with the larger loss")
-        })
-    };
-    for (layer, (&low, &high)) in low.layers.iter().zip(&high.layers).enumerate() {
-        not_less(&format!("layer {}", layer + 1), low, high)?;
-    }
-    for (&member, &[charge, call]) in &low.members {
-        let [charged, called] = high.of(member);
-        not_less(&format!("member {member}'s charge"), charge, charged)?;
-        not_less(&format!("member {member}'s call"), call, called)?;
-    }
-    not_less("the shortfall", low.short, high.short)
-}
-
-fn tally(apart: u64, low: &Answer, high: &Answer) -> RaisedTally {
-    let grew = |layer: usize| low.layers[layer] < high.layers[layer];
-    let any = |kind: usize, holds: fn(&Sum, &Sum) -> bool| {
-        let mut members = low.members.iter();
-        members.any(|(&m, given)| given[kind] > 0 && holds(&given[kind], &high.of(m)[kind]))
-    };
-    RaisedTally {
-        pairs: 1,
-        equal: (apart == 0) as u64,
-        by_one: (apart == 1) as u64,
-        fallen: (low.fallen > 0) as u64,
-        layers: [0, 1, 2, 3, 4, 5].map(|layer| grew(layer) as u64),
-        shorter: (low.short < high.short) as u64,
-        more: [0, 1].map(|kind| any(kind, Sum::lt) as u64),
-        same: [(0, 3), (1, 5)].map(|(kind, layer)| (grew(layer) && any(kind, Sum::eq)) as u64),
-    }
-}
-
-impl Answer {
-    fn of(&self, member: Sum) -> [Sum; 2] {
-        self.members.get(&member).copied().unwrap_or_default()
-    }
-
-    /// All charges and the shortfall.
-    fn placed(&self) -> Sum {
-        self.layers.iter().sum::<Sum>() + self.short
-    }
+    Ok(Apart::tally(apart, fallen, &low, &high))
 }
 
 /// What stands before the answer to a drill's last default, and the answer, which a register follows.
@@ -109,42 +40,40 @@ fn last_default(printed: &str) -> Counted<(&str, &str)> {
     Ok((&printed[..start], &printed[start..end]))
 }
 
-/// The answer, if the default was accepted.
-fn read_answer(text: &str) -> Counted<Option<Answer>> {
+/// The fallen call and the answer, if the default was accepted.
+fn read_answer(text: &str) -> Counted<Option<(Sum, Answer)>> {
     let mut printed = Printed(text.lines().peekable());
     if printed.take_if::<1>("refused #").is_some() {
         return Ok(None);
     }
-    let [fallen, layers @ .., short] = printed.take::<8>(DEFAULT_ANSWER)?;
-    let mut members = BTreeMap::new();
-    while let Some([member, given @ ..]) = printed.take_if::<3>(MEMBER_LINE) {
-        members.insert(member, given);
-    }
+    let answer = Answer::read_default(&mut printed)?;
     ensure(printed.0.next().is_none(), || "more is printed".into())?;
-    Ok(Some(Answer {
-        fallen,
-        layers,
-        short,
-        members,
-    }))
+    Ok(Some(answer))
 }
 
 #[cfg(test)]
 mod tests {
     use super::*;
     use crate::generate::{example_register, raised};
+    use crate::ledger::count;
 
     fn printed(case: &RaisedCase) -> [String; 2] {
         case.drills()
             .map(|drill| String::from_utf8(drill.expected()).unwrap())
     }
 
-    fn counted(case: &RaisedCase, [low, high]: &[String; 2]) -> Counted<RaisedTally> {
+    fn counted(case: &RaisedCase, [low, high]: &[String; 2]) -> Counted<Apart> {
         count_raised(case, [low, high])
     }
 
-    fn tallied(case: &RaisedCase) -> RaisedTally {
+    fn tallied(case: &RaisedCase) -> Apart {
         counted(case, &printed(case)).unwrap()
+    }
+
+    /// What does not hold of each drill by itself.
+    fn faults(case: &RaisedCase, texts: &[String; 2]) -> [Option<String>; 2] {
+        let drills = case.drills();
+        [0, 1].map(|at| count(&drills[at], &texts[at]).err())
     }
 
     /// Document 01's register, and its first default with these losses.
@@ -163,8 +92,9 @@ mod tests {
     fn random_pairs_hold() {
         for seed in 0..500 {
             let case = raised(seed);
-            let why = counted(&case, &printed(&case)).err();
-            assert_eq!(why, None, "seed {seed}");
+            let texts = printed(&case);
+            assert_eq!(counted(&case, &texts).err(), None, "seed {seed}");
+            assert_eq!(faults(&case, &texts), [None, None], "seed {seed}");
         }
     }
 
@@ -283,6 +213,60 @@ mod tests {
         assert!(counted(&case, &pair).is_err());
         // and the two losses the other way about
         assert!(counted(&case, &[high, low]).is_err());
+    }
+
+    /// A thousand of one member's end on another's: all sums hold, and both defaults fall between.
+    #[test]
+    fn an_end_that_no_loss_reaches_is_seen() {
+        let case = example([90_000, 160_000]);
+        let good = printed(&case);
+        let with = |changes: [(&str, &str); 2]| {
+            let texts = good.clone().map(|text| {
+                changes.iter().fold(text, |text, (from, to)| {
+                    assert!(text.contains(from), "{text}");
+                    text.replacen(from, to, 1)
+                })
+            });
+            assert!(counted(&case, &texts).is_ok());
+            faults(&case, &texts)
+        };
+        let range = "line 4: request 7: with loss";
+        assert_eq!(
+            with([
+                ("charged 2266 to", "charged 2265 to"),
+                ("charged 4534 to", "charged 4535 to")
+            ]),
+            [
+                Some(format!(
+                    "{range} 90000 of 90000 to 160000 member 4's charge is 4534, below 4535"
+                )),
+                None,
+            ]
+        );
+        assert_eq!(
+            with([
+                ("called 0 to 6000", "called 0 to 6001"),
+                ("called 0 to 2000", "called 0 to 1999")
+            ]),
+            [
+                None,
+                Some(format!(
+                    "{range} 160000 of 90000 to 160000 member 2's call is 6000, below 6001"
+                )),
+            ]
+        );
+    }
+
+    #[test]
+    fn two_answers_of_the_range_are_seen() {
+        let case = example([90_000, 160_000]);
+        let [low, high] = printed(&case);
+        let other = high.replacen("charged 2266 to", "charged 2267 to", 1);
+        assert_ne!(high, other);
+        assert_eq!(
+            counted(&case, &[low, other]).unwrap_err(),
+            "the drills differ before their last default"
+        );
     }
 
     #[test]

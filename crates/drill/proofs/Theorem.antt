@@ -1,20 +1,23 @@
--- Statement 3, proved: for any register sheet, any G and any list of drill calls. Last, that an accepted default reads no larger rank than the limit, and
--- that a defaulter is so for good.
+-- Statement 3, proved: for any register sheet, any G and any list of drill calls. Last, that an accepted default reads no larger rank than the limit, that no
+-- share of a default passes what it is drawn from, and that a defaulter is so for good.
 use Prim.Native.Nat.{ℕ, ◌≤◌, ◌<◌}
 use mathlib.Core.Path.{◌≡◌, ap, sym, subst, ◌∙◌}
 use mathlib.Core.Bool.{true, not, ◌&&◌}
 use mathlib.Core.List.{List, [], ◌∷◌, ◌++◌, append_assoc}
 use native.Mathlib.Omega.{arith}
 use borrow.Author.Tests.{not-true}
+use Rattle.std.proofs.Common.{append-nil}
 use Rattle.lists.specs.Limits.{rank_limit}
 use Rattle.waterfall.specs.Opening.{opened_of}
 use Rattle.figures.specs.Figures.{figure, status_at}
 use Rattle.figures.specs.declared.Status.{Status}
 use Rattle.admission.specs.Admission.{pool_ranks}
 use Rattle.admission.specs.declared.Pools.{Pools}
+use Rattle.waterfall.specs.Pockets.{WithinPockets}
 use Rattle.waterfall.specs.Register.{Register}
 use Rattle.figures.proofs.Figures.{figure-le}
 use Rattle.waterfall.proofs.Entered.{given-opened}
+use Rattle.waterfall.proofs.Pockets.{no_share_above}
 use Rattle.drill.specs.Drill.{Step, Event, trace}
 use Rattle.drill.specs.Counting.{opening_accepted, named, defaulted, sheet_cap, accepted, last_register, live_after, called_since}
 use Rattle.drill.specs.Statement.{OtherLive, CalledToCap, InOrder, Statement3}
@@ -103,6 +106,11 @@ module _ (sheet : List ℕ) (g : ℕ) (steps : List Step) where
   ranks-within before e after q m pools c t p h n o =
       let r : Run opened (before ++ e ∷ after) = run_of _ q in
       (next_laws before opened e after r).ranked m pools c t p h n (counted-live before (e ∷ after) r n o.0, o.1)
+
+  -- "no sheet and no call can bring it" (document 02, request 8): whatever sheet, G and calls came before, no share of a default passes what it is drawn from
+  pub never_above : (member : ℕ) (pools : Pools) (ranks : List ℕ) → WithinPockets (last_register opened events) member pools ranks
+  never_above =
+      no_share_above (last_register opened events) (last-given [] events opened (given-opened sheet g) (run_of (events ++ []) (sym (append-nil events))))
 
   -- "The defaulter is then in default for good.": whom an accepted default names is in default in the register last given back
   pub in-default_for_good : (before : List Event) (e : Event) (after : List Event) → events ≡ before ++ e ∷ after

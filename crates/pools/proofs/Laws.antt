@@ -123,8 +123,7 @@ module _ (sums ws ranks : List ℕ) where
 
     length-tied : length (tied sums ws ranks) ≡ member_limit
     unfolding tied still_standing
-    length-tied = length-split (gives (unmet sums ws ranks) (total (still_standing sums ws ranks))) (still_standing sums ws ranks)
-        ∙ length-minus ws (charges_together sums ws ranks) ∙ long
+    length-tied = length-split _ (still_standing sums ws ranks) ∙ length-minus ws (charges_together sums ws ranks) ∙ long
 
     pub length_by-pools : length (charges_by_pools sums ws ranks) ≡ member_limit
     unfolding charges_by_pools
@@ -139,13 +138,13 @@ module _ (sums ws ranks : List ℕ) where
   pooled-placed = omega (arith, up_to-placed (length sums) (omega arith))
 
   -- the last tie
+  pub tied-within : (k : ℕ) → get_or (tied sums ws ranks) k 0 ≤ get_or (still_standing sums ws ranks) k 0
+  unfolding tied
+  tied-within k = split-within _ (still_standing sums ws ranks) (omega arith) k
+
   total-tied : total (tied sums ws ranks) ≡ gives (unmet sums ws ranks) (total (still_standing sums ws ranks))
   unfolding tied
-  total-tied = total_within (gives (unmet sums ws ranks) (total (still_standing sums ws ranks))) (still_standing sums ws ranks) (omega arith)
-
-  tied-within : (k : ℕ) → get_or (tied sums ws ranks) k 0 ≤ get_or (still_standing sums ws ranks) k 0
-  unfolding tied
-  tied-within k = split-within (gives (unmet sums ws ranks) (total (still_standing sums ws ranks))) (still_standing sums ws ranks) (omega arith) k
+  total-tied = total_within _ (still_standing sums ws ranks) (omega arith)
 
   get_or-standing : (k : ℕ) → get_or (still_standing sums ws ranks) k 0 ≡ get_or ws k 0 - get_or (charges_together sums ws ranks) k 0
   unfolding still_standing

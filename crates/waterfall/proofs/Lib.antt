@@ -3,6 +3,7 @@ pub mod Default
 pub mod Growth
 pub mod Given
 pub mod Pooled
+pub mod Pockets
 pub mod Answer
 pub mod Placing
 pub mod Entered

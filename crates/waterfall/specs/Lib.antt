@@ -5,6 +5,7 @@ pub mod Opening
 pub mod Reply
 pub mod Default
 pub mod Pools
+pub mod Pockets
 pub mod Calls
 pub mod View
 pub mod Parts

@@ -8,19 +8,17 @@ use borrow.Author.Tests.{ltb-false, eqb-true, not-false, le-ltb, eq-eqb}
 use lib.Dec.{eqb, ltb}
 use lib.ListN.{length}
 use lib.Seq.{take_all}
-use Rattle.std.specs.Prelude.{Option, None}
-use Rattle.std.specs.Option.{option_or}
+use Rattle.std.specs.Prelude.{None}
 use Rattle.std.specs.List.{range_with_len}
 use Rattle.std.proofs.lemmas.Bool.{or_parts}
 use Rattle.lists.specs.Limits.{member_limit, pool_limit, sum_limit}
 use Rattle.lists.specs.Sums.{total}
 use Rattle.lists.proofs.Checks.{check_past, check_skip}
-use Rattle.refusal.specs.declared.Refusal.{Refusal}
 use Rattle.figures.specs.declared.Status.{Status}
 use Rattle.figures.specs.Figures.{status_at, is_absent, is_in-default, others}
-use Rattle.admission.specs.Admission.{misranked, unready, admission, loss_of, losses_of, miscounted, excessive_losses, pools_unready, pools_misranked, losses_admission, pools_admission}
+use Rattle.admission.specs.Admission.{misranked, unready, admission, loss_of, losses_of, miscounted, excessive_losses, pools_unready, pools_misranked, pools_admission}
 use Rattle.admission.specs.declared.Pools.{Pools}
-use Rattle.admission.proofs.Passed.{check_or, standing_or, passes, present_test, default_test}
+use Rattle.admission.proofs.Passed.{passes, present_test, default_test}
 
 -- `slip` is how many numbers are lent
 module _ (status : List Status) (member loss : ℕ) (ranks : List ℕ) (slip : ℕ) where
@@ -32,12 +30,12 @@ module _ (status : List Status) (member loss : ℕ) (ranks : List ℕ) (slip : �
     pub slip-length : member_limit + member_limit ≤ slip
     pub well_ranked : misranked (others status member) ranks ≡ false
 
-  pub admitted : (rest : Option Refusal) → admission status member loss ranks slip rest ≡ None → Admitted
-  admitted rest e =
+  pub admitted : admission status member loss ranks slip ≡ None → Admitted
+  admitted e =
       let s = passes status member _ e in
       let c = check_past (ltb sum_limit loss) _ _ (λ q. cc) s.rest-none in
       let d = check_past (unready (length ranks) slip) _ _ (λ q. cc) c.1 in
-      let f = check_past (misranked (others status member) ranks) _ rest (λ q. cc) d.1 in
+      let f = check_past (misranked (others status member) ranks) _ None (λ q. cc) d.1 in
       record {
         present = s.present;
         not_in-default = s.not_in-default;
@@ -48,19 +46,15 @@ module _ (status : List Status) (member loss : ℕ) (ranks : List ℕ) (slip : �
       }
 
   -- 11 to 15 refuse nothing of which all this is known
-  pub admits : Admitted → (rest : Option Refusal) → admission status member loss ranks slip rest ≡ rest
-  admits a rest =
-      check_skip (is_absent (status_at status member)) _ _ rest (present_test _ a.present)
-      (check_skip (is_in-default (status_at status member)) _ _ rest (default_test _ a.not_in-default)
-      (check_skip (ltb sum_limit loss) _ _ rest (le-ltb _ _ a.loss_fits)
-      (check_skip (unready (length ranks) slip) _ _ rest (rw (eq-eqb _ _ a.ranks_length, le-ltb _ _ a.slip-length) refl)
-      (check_skip (misranked (others status member) ranks) _ rest rest a.well_ranked refl))))
+  pub admits : Admitted → admission status member loss ranks slip ≡ None
+  admits a =
+      check_skip (is_absent (status_at status member)) _ _ None (present_test _ a.present)
+      (check_skip (is_in-default (status_at status member)) _ _ None (default_test _ a.not_in-default)
+      (check_skip (ltb sum_limit loss) _ _ None (le-ltb _ _ a.loss_fits)
+      (check_skip (unready (length ranks) slip) _ _ None (rw (eq-eqb _ _ a.ranks_length, le-ltb _ _ a.slip-length) refl)
+      (check_skip (misranked (others status member) ranks) _ None None a.well_ranked refl))))
 
 -- with pools ------------------------------------------------------------------------
-
--- what 13 and 22 answer, and what is behind them
-pub losses_admission_or : (losses : List ℕ) (n a rest : Option Refusal) → a ≡ option_or n rest → losses_admission losses a ≡ option_or (losses_admission losses n) rest
-losses_admission_or losses n a rest e = check_or rest _ _ _ _ (check_or rest _ _ _ _ e)
 
 module _ (status : List Status) (member : ℕ) (pools : Pools) (ranks : List ℕ) (slip : ℕ) where
   pub record PoolsAdmitted : Type 0 where
@@ -74,14 +68,14 @@ module _ (status : List Status) (member : ℕ) (pools : Pools) (ranks : List ℕ
     pub slip-length : member_limit + member_limit ≤ slip
     pub well_ranked : pools_misranked (others status member) ranks pools.count ≡ false
 
-  pub pools_admitted : (rest : Option Refusal) → pools_admission status member pools ranks slip rest ≡ None → PoolsAdmitted
-  pools_admitted rest e =
+  pub pools_admitted : pools_admission status member pools ranks slip ≡ None → PoolsAdmitted
+  pools_admitted e =
       let s = passes status member _ e in
       let n = check_past (miscounted pools.count) _ _ (λ q. cc) s.rest-none in
       let c = check_past (excessive_losses (losses_of pools)) _ _ (λ q. cc) n.1 in
       let t = check_past (ltb sum_limit (total (losses_of pools))) _ _ (λ q. cc) c.1 in
       let d = check_past (pools_unready pools.count (length ranks) slip) _ _ (λ q. cc) t.1 in
-      let f = check_past (pools_misranked (others status member) ranks pools.count) _ rest (λ q. cc) d.1 in
+      let f = check_past (pools_misranked (others status member) ranks pools.count) _ None (λ q. cc) d.1 in
       let counted = or_parts (ltb pools.count 1) _ n.0 in
       record {
         present = s.present;
@@ -94,15 +88,6 @@ module _ (status : List Status) (member : ℕ) (pools : Pools) (ranks : List ℕ
         slip-length = ltb-false _ _ (or_parts (not (eqb (length ranks) (member_limit * pools.count))) _ d.0).1;
         well_ranked = f.0;
       }
-
-  -- what 11 to 15, 21 and 22 answer, and what is behind them
-  pub pools_admission_or : (rest : Option Refusal) → pools_admission status member pools ranks slip rest ≡ option_or (pools_admission status member pools ranks slip None) rest
-  pools_admission_or rest =
-      standing_or rest status member _ _
-      (check_or rest _ _ _ _
-      (losses_admission_or (losses_of pools) _ _ rest
-      (check_or rest _ _ _ _
-      (check_or rest _ _ _ _ refl))))
 
   -- with one pool it is admitted as document 01 has it
   pub admitted_one : pools.count ≡ 1 → PoolsAdmitted → Admitted status member (loss_of pools 0) ranks slip

@@ -5,26 +5,13 @@ use mathlib.Core.Bool.{Bool, false, true}
 use mathlib.Core.List.{List}
 use lib.ListN.{length}
 use Rattle.std.specs.Prelude.{Option, Some, None}
-use Rattle.std.specs.Option.{option_or}
 use Rattle.lists.specs.Limits.{member_limit}
-use Rattle.lists.specs.Checks.{check}
 use Rattle.lists.proofs.Checks.{check_past}
 use Rattle.refusal.specs.declared.Refusal.{Refusal}
 use Rattle.figures.specs.declared.Status.{Status}
 use Rattle.figures.specs.Figures.{status_at, is_absent, is_in-default}
 use Rattle.figures.proofs.Figures.{place_of}
 use Rattle.admission.specs.Admission.{standing}
-
--- What a row of checks answers with nothing behind it is the first answer of the row with something behind it.
-module _ {A : Type 0} (rest : Option A) where
-  pub check_or : (t : Bool) (refusal : A) (n a : Option A) → a ≡ option_or n rest → check t (Some refusal) a ≡ option_or (check t (Some refusal) n) rest
-  unfolding check
-  check_or true refusal n a e = refl
-  check_or false refusal n a e = e
-
-pub standing_or : (rest : Option Refusal) (status : List Status) (member : ℕ) (n a : Option Refusal) → a ≡ option_or n rest
-    → standing status member a ≡ option_or (standing status member n) rest
-standing_or rest status member n a e = check_or rest _ _ _ _ (check_or rest _ _ _ _ e)
 
 -- who passes 11 and 12 is in the register and not in default, and the rest is what is answered
 pub record Passes (status : List Status) (member : ℕ) (rest : Option Refusal) : Type 0 where

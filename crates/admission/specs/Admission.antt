@@ -1,6 +1,6 @@
 -- Document 01, "When the console says no": refusals 11 to 18, and 21 and 22 of document 02, request 3, on the figures that they read.
 use Rattle.std.specs.Prelude.{ℕ, zero, suc, ◌+◌, ◌*◌, ◌≡◌, refl, Bool, true, false, ◌||◌, ◌&&◌, not, eqb, ltb}
-use Rattle.std.specs.Prelude.{List, [], ◌∷◌, map, length, get_or, take, drop, replicate, Option, Some}
+use Rattle.std.specs.Prelude.{List, [], ◌∷◌, map, length, get_or, take, drop, replicate, Option, Some, None}
 use Rattle.std.specs.List.{list_any, range_with_len}
 use Rattle.lists.specs.Checks.{check}
 use Rattle.lists.specs.Limits.{member_limit, rank_limit, pool_limit, sum_limit}
@@ -35,14 +35,14 @@ limit_of-ranks : (misranked (true ∷ true ∷ []) (1 ∷ 24 ∷ []) ≡ false)
 unfolding misranked
 limit_of-ranks = (refl, refl, refl)
 
--- a default's with one pool: 11, 12, 13. "A loss is above 25,600,000,000.", 14, 15, then the rest. `slip` is how many numbers are lent.
-abbrev pub admission : List Status → ℕ → ℕ → List ℕ → ℕ → Option Refusal → Option Refusal
-admission status member loss ranks slip rest =
+-- a default's with one pool: 11, 12, 13. "A loss is above 25,600,000,000.", 14, 15. `slip` is how many numbers are lent.
+abbrev pub admission : List Status → ℕ → ℕ → List ℕ → ℕ → Option Refusal
+admission status member loss ranks slip =
     standing status member
     (check (ltb sum_limit loss) (Some Refusal.ExcessiveLoss)
     (check (unready (length ranks) slip) (Some Refusal.Unready)
     (check (misranked (others status member) ranks) (Some Refusal.Misranked)
-    rest)))
+    None)))
 
 -- several auction pools -------------------------------------------------------
 
@@ -86,15 +86,15 @@ losses_admission losses rest =
     (check (ltb sum_limit (total losses)) (Some Refusal.ExcessiveLosses)
     rest)
 
--- a default's: 11, 12, 21, 13, 22, 14, 15, then the rest
-abbrev pub pools_admission : List Status → ℕ → Pools → List ℕ → ℕ → Option Refusal → Option Refusal
-pools_admission status member pools ranks slip rest =
+-- a default's: 11, 12, 21, 13, 22, 14, 15
+abbrev pub pools_admission : List Status → ℕ → Pools → List ℕ → ℕ → Option Refusal
+pools_admission status member pools ranks slip =
     standing status member
     (check (miscounted pools.count) (Some Refusal.Miscounted)
     (losses_admission (losses_of pools)
     (check (pools_unready pools.count (length ranks) slip) (Some Refusal.Unready)
     (check (pools_misranked (others status member) ranks pools.count) (Some Refusal.Misranked)
-    rest))))
+    None))))
 
 -- 16 and 17: an amount is zero or above what it may be at most
 abbrev pub unfit : ℕ → ℕ → Bool

@@ -131,7 +131,7 @@ pub fn default_admission(
     ranks: &[u8],
     slip: usize,
 ) -> Result<(), Refusal>
-    ensures { result ≡ answered (pools_admission status member pools ranks.now slip None) tt }
+    ensures { result ≡ answered (pools_admission status member pools ranks.now slip) tt }
 {
     standing(&status, member)?;
     if miscounted(pools.count) {

@@ -67,13 +67,10 @@ fn sum(case: Case, whole: u64, turn: u64) -> u64
     }
 }
 
-// The flag, the share of one place and of another one each turn.
-fn fold_shares(checksum: u64, over: bool, shares: &[u64; 64], turn: u64) -> u64 {
+// The share of one place and of another one each turn.
+fn fold_shares(checksum: u64, shares: &[u64; 64], turn: u64) -> u64 {
     let place = (turn % 64) as usize;
-    fold(
-        fold(fold(checksum, u64::from(over)), shares[ALONE]),
-        shares[place],
-    )
+    fold(fold(checksum, shares[ALONE]), shares[place])
 }
 
 /// The checksum of a case repeated.
@@ -86,11 +83,11 @@ pub fn measured(side: Side, case: Case, turns: u64) -> u64
     let mut checksum = 0;
     for turn in 0..turns {
         let sum = sum(case, whole, turn);
-        let over = match side {
+        match side {
             Side::Engine => split::split(sum, whole, &weights, &mut shares),
             Side::Old => old::split(sum, whole, &weights, &mut shares),
-        };
-        checksum = fold_shares(checksum, over, &shares, turn);
+        }
+        checksum = fold_shares(checksum, &shares, turn);
     }
     checksum
 }

@@ -17,11 +17,12 @@ use Rattle.waterfall.specs.Register.{Register, GivenBack}
 use Rattle.waterfall.specs.Reply.{judged}
 use Rattle.waterfall.specs.Default.{fallen_call, on_margin, on_contribution, calls, after1, after2, after3, after4, after5, allocation_of, settled_of, slip_of}
 use Rattle.waterfall.specs.Pools.{loss_together, pooled_charges, pooled_allocation, pooled_refusal, pooled_of, pooled_slip}
-use Rattle.admission.proofs.Admitted.{PoolsAdmitted, pools_admitted}
+use Rattle.admission.proofs.Admitted.{PoolsAdmitted}
 use Rattle.waterfall.proofs.Default.{Layer4, placed, margin-gives, contribution-gives, tranche1-gives, tranche2-gives, charges-within, left2, left3, left4}
 use Rattle.waterfall.proofs.Default.{left5, left6, charges_read, calls_read}
 use Rattle.figures.proofs.Figures.{same_member, other_member, replaced_at, figure-plus, figure-le, by-member}
 use Rattle.waterfall.proofs.Given.{given-settled, length-calls}
+use Rattle.waterfall.proofs.Placing.{admitted}
 use Rattle.drill.proofs.Order.{layer4, defaulter_known, settled-contribution, settled_other, defaulter_uncharged, empty1, empty2, empty3, empty4, empty5}
 use Rattle.drill.proofs.Order.{empty6, ranked_other, by_rank_in_pool, by_rank}
 use Rattle.drill.specs.Drill.{Event}
@@ -182,11 +183,6 @@ module _ (r : Register) (g : GivenBack r) (member : ℕ) (pools : Pools) (ranks 
       named : {m : ℕ} {l : Pools} → Default member pools ≡ Default m l → (m ≡ member) × (l ≡ pools)
       named q = (cc, cc)
 
-admitted_by : (r : Register) (member : ℕ) (pools : Pools) (ranks slip : List ℕ) → pooled_refusal r member pools ranks slip ≡ None
-    → PoolsAdmitted r.status member pools ranks (length slip)
-unfolding pooled_refusal
-admitted_by r member pools ranks slip z = pools_admitted r.status member pools ranks (length slip) _ z
-
 pub default_laws : (r : Register) → GivenBack r → (member : ℕ) (pools : Pools) (ranks slip : List ℕ)
     → StepLaws r (seen (Default member pools) ranks (pooled_of r member pools ranks slip) (pooled_slip r member pools ranks slip))
 unfolding pooled_of pooled_slip judged check event left charged calling
@@ -197,4 +193,4 @@ default_laws r g member pools ranks slip = go (pooled_refusal r member pools ran
         (judged o r (Some (pooled_allocation r member pools ranks)) (settled_of r member (loss_together pools) (pooled_charges r member pools ranks)))
         (check (is_some o) slip (slip_of r member (loss_together pools) (pooled_charges r member pools ranks) slip)))
     go (Some refusal) e = refused_laws r g (Default member pools) ranks slip refusal
-    go None e = allocated_laws r g member pools ranks slip (admitted_by r member pools ranks slip e)
+    go None e = allocated_laws r g member pools ranks slip (admitted r member pools ranks slip e)

@@ -67,7 +67,7 @@ module _ (r : Register) (g : GivenBack r) (member : ℕ) (ranks : List ℕ) wher
 
       long : length charged ≡ member_limit
       unfolding default_refusal
-      long = (charged_rightly r g member pools one ranks (length slip) (admitted r.status member loss ranks (length slip) _ unrefused)).long
+      long = (charged_rightly r g member pools one ranks (length slip) (admitted r.status member loss ranks (length slip) unrefused)).long
 
       pub by_rule : ByRule loss event
       unfolding allocation_of

@@ -1,8 +1,7 @@
 -- What the parts of `layers` promise each other and their callers. No rule of document 01 is here.
-use Rattle.std.specs.Prelude.{ℕ, ◌+◌, ◌-◌, ◌*◌, ◌≤◌, ◌<◌, ◌≡◌, Bool, false, ◌||◌, List, length}
+use Rattle.std.specs.Prelude.{ℕ, ◌+◌, ◌-◌, ◌*◌, ◌≤◌, ◌<◌, ◌≡◌, Bool, false, List, length}
 use Rattle.lists.specs.Limits.{member_limit, pool_limit, amount_limit, allocation_limit}
 use Rattle.lists.specs.Sums.{total, keep, AtMost}
-use Rattle.split.specs.Split.{exceeds}
 use Rattle.figures.specs.declared.Status.{Status}
 use Rattle.figures.specs.Figures.{live_in, figure, replace}
 use Rattle.admission.specs.Admission.{losses_of, excessive_losses, pools_misranked}
@@ -53,8 +52,4 @@ pub record GoesDown (losses : List ℕ) (estate : Estate) (tranche1 tranche2 : �
       placed.charges ≡ charges_by_pools (sums_of (a.margin + a.contribution + a.tranche1) estate.fallen losses) (keep others contributions) ranks
   pub members_are : placed.allocation.members ≡ total placed.charges
   pub layer5 : Leaves (left3 - placed.allocation.members) tranche2 placed.allocation.tranche2 left5
-  pub over4 : Bool
-  pub over6 : Bool
-  pub over4_is : over4 ≡ exceeds placed.charges contributions
-  pub layer6 : Shares rooms left5 placed.called placed.allocation.calls placed.allocation.short over6
-  pub over_is : placed.over ≡ (over4 || over6)
+  pub layer6 : Shares rooms left5 placed.called placed.allocation.calls placed.allocation.short

@@ -52,15 +52,13 @@ pub struct Allocation {
     pub short: u64,
 }
 
-/// A default as it is placed: its answer, what each member is charged in layer 4 and called in layer 6, and whether a share passes what it is drawn from.
+/// A default as it is placed: its answer, what each member is charged in layer 4 and called in layer 6.
 #[derive(Clone, Copy)]
 pub struct Placed {
     pub allocation: Allocation,
     // two lists: each is settled and told as a whole
     pub charges: [u64; 64],
     pub called: [u64; 64],
-    // A flag, and no Result: the allocation and the charges are promised either way, and an error would carry neither.
-    pub over: bool,
 }
 
 // The six layers, one after the other: the losses and the fallen call go down them. `figures` has the members as they stand once the defaulter is in
@@ -84,14 +82,14 @@ fn place(figures: Figures, estate: Estate, pools: Pools, ranks: &[u8]) -> Placed
         sums,
     );
     let mut charges = [0; 64];
-    let fourth = charge_by_pools(
+    let members = charge_by_pools(
         sums,
         figures.status,
         figures.contribution,
         ranks,
         &mut charges,
     );
-    let fifth = layer(third.left - fourth.total, figures.tranche2);
+    let fifth = layer(third.left - members, figures.tranche2);
     let sixth = share_rooms(figures.status, figures.cap, figures.called, fifth.left);
     // A local: the language does not take an array of one struct straight into the literal of another.
     let called = sixth.shares;
@@ -101,14 +99,13 @@ fn place(figures: Figures, estate: Estate, pools: Pools, ranks: &[u8]) -> Placed
             margin: first.gives,
             contribution: second.gives,
             tranche1: third.gives,
-            members: fourth.total,
+            members,
             tranche2: fifth.gives,
             calls: sixth.total,
             short: sixth.left,
         },
         charges,
         called,
-        over: fourth.over | sixth.over,
     }
 }
 

@@ -14,12 +14,12 @@ use Rattle.numbers.specs.Numbers.{read_of}
 use Rattle.indian_digits.specs.IndianDigits.{indian_of}
 use Rattle.indian_digits.proofs.Theorems.{digits_in, amount_back, amount_fits}
 use Rattle.figures.proofs.Figures.{figure_bound}
-use Rattle.admission.proofs.Admitted.{pools_admitted}
 use Rattle.waterfall.specs.Register.{Register, GivenBack}
 use Rattle.waterfall.specs.Default.{fallen_call, allocation_of}
 use Rattle.waterfall.specs.Pools.{loss_together, pooled_charges, pooled_allocation, pooled_refusal}
 use Rattle.admission.specs.declared.Pools.{Pools}
 use Rattle.waterfall.proofs.Default.{placed}
+use Rattle.waterfall.proofs.Placing.{admitted}
 use Rattle.waterfall.proofs.Pooled.{pooled_layer4}
 use Rattle.layers.specs.declared.Allocation.{Allocation}
 use Rattle.page.specs.Parts.{Within}
@@ -82,9 +82,9 @@ no_two_alike a b page other e =
 -- Every default's answer can be printed ---------------------------------------------
 
 pub answers-within : (r : Register) (member : ℕ) (pools : Pools) (ranks slip : List ℕ) → GivenBack r → pooled_refusal r member pools ranks slip ≡ None → Within (pooled_allocation r member pools ranks)
-unfolding pooled_allocation allocation_of pooled_refusal fallen_call
+unfolding pooled_allocation allocation_of fallen_call
 answers-within r member pools ranks slip g e =
-    let a = pools_admitted r.status member pools ranks (length slip) _ e in
+    let a = admitted r member pools ranks slip e in
     let fits = a.losses_fit in
     let fallen = figure_bound r.outstanding amount_limit (λ k. omega (arith, g.outstanding_fits k, g.called_fits k, g.cap_fits k)) member in
     let sum = placed r member (loss_together pools) (pooled_charges r member pools ranks) (pooled_layer4 r member pools a.some a.few g ranks a.ranks_length) in

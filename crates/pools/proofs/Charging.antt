@@ -13,7 +13,6 @@ use Rattle.lists.specs.Sums.{total, plus, minus, keep}
 use Rattle.lists.proofs.Places.{map_same}
 use Rattle.lists.proofs.Sums.{total_zeros, single, length-keep, get_or-keep, keep-le, keep-keep, keep-minus, kept_mark, mark-within}
 use Rattle.split.specs.Split.{share_of, split_of}
-use Rattle.split.proofs.Laws.{exceeds-none}
 use Rattle.ranks.specs.Ranks.{charges_of}
 use Rattle.figures.specs.declared.Status.{Status}
 use Rattle.figures.specs.Figures.{live_in}
@@ -26,7 +25,7 @@ use Rattle.pools.specs.Pools.{portion_of, charges_in, charges_up_to, charges_tog
 use Rattle.pools.specs.Parts.{Charges, Chargeable, Poolable, Divided, Divisible, PoolCharged, Tiable, Tied, undivided, shares}
 use Rattle.pools.specs.declared.Division.{Division}
 use Rattle.pools.proofs.Laws.{portion-none, portion_turn, undivided_turn, up_to-within, up_to-placed, length_up_to, pooled-within, pooled-placed}
-use Rattle.pools.proofs.Laws.{by-pools-within, one_pool_lem}
+use Rattle.pools.proofs.Laws.{one_pool_lem}
 use Rattle.std.proofs.lemmas.List.{at_drop_more}
 
 -- lists that are taken from one list place by place -------------------------------------
@@ -179,24 +178,20 @@ module _ (sums : List ℕ) (status : List Status) (contribution ranks : List ℕ
         }
 
     -- with the tie's charges, these are layer 4's
-    pub by-pools_so : (charges : List ℕ) (t : ℕ) (over : Bool) → Tied (rooms marks contribution d.charges) whole d charges t over
-        → Charges (charges_by_pools sums weights ranks) contribution charges t over
+    pub by-pools_so : (charges : List ℕ) (t : ℕ) → Tied (rooms marks contribution d.charges) whole d charges t → Charges (charges_by_pools sums weights ranks) charges t
     unfolding charges_by_pools tied still_standing unmet charges_together
-    by-pools_so charges t over q =
+    by-pools_so charges t q =
         let stands : rooms marks contribution d.charges ≡ still_standing sums weights ranks =
         keep-minus marks contribution d.charges ∙ ap (minus weights) i.charges_are in
         let n : d.total ≡ total charged = i.total_is ∙ ap total i.charges_are in
-        let e : charges ≡ charges_by_pools sums weights ranks =
-        q.charges_are
-        ∙ ap (λ (xs : List ℕ). plus d.charges (split_of (gives (whole - d.total) (total xs)) xs)) stands
-        ∙ ap (λ (m : ℕ). plus d.charges (split_of (gives (m - d.total) (total (still_standing sums weights ranks))) (still_standing sums weights ranks))) w
-        ∙ ap (λ (m : ℕ). plus d.charges (split_of (gives (total sums - m) (total (still_standing sums weights ranks))) (still_standing sums weights ranks))) n
-        ∙ ap (λ (xs : List ℕ). plus xs (tied sums weights ranks)) i.charges_are in
         record {
-          charges_are = e;
+          charges_are =
+              q.charges_are
+              ∙ ap (λ (xs : List ℕ). plus d.charges (split_of (gives (whole - d.total) (total xs)) xs)) stands
+              ∙ ap (λ (m : ℕ). plus d.charges (split_of (gives (m - d.total) (total (still_standing sums weights ranks))) (still_standing sums weights ranks))) w
+              ∙ ap (λ (m : ℕ). plus d.charges (split_of (gives (total sums - m) (total (still_standing sums weights ranks))) (still_standing sums weights ranks))) n
+              ∙ ap (λ (xs : List ℕ). plus xs (tied sums weights ranks)) i.charges_are;
           total_is = q.total_is;
-          over_is = q.over_is ∙ sym (exceeds-none charges contribution
-              (λ k. omega (arith, ap (λ (xs : List ℕ). get_or xs k 0) e, by-pools-within sums weights ranks k, keep-le marks contribution k)));
         }
 
 -- the live members' contributions alone are divided ---------------------------------------
@@ -215,24 +210,12 @@ module _ (sums : List ℕ) (status : List Status) (contribution ranks standing :
         well_ranked = c.well_ranked;
       }
 
-  -- they are the weights, and a charge within one is within the contribution
-  pub standing-charges : (charges : List ℕ) (t : ℕ) (over : Bool)
-      → Charges (charges_by_pools sums (keep (live_in status) standing) ranks) standing charges t over
-      → Charges (charges_by_pools sums (keep (live_in status) contribution) ranks) contribution charges t over
-  standing-charges charges t over q =
+  -- they are the weights
+  pub standing-charges : (charges : List ℕ) (t : ℕ) → Charges (charges_by_pools sums (keep (live_in status) standing) ranks) charges t
+      → Charges (charges_by_pools sums (keep (live_in status) contribution) ranks) charges t
+  standing-charges charges t q =
       let same : keep (live_in status) standing ≡ keep (live_in status) contribution = ap (keep (live_in status)) e ∙ keep-keep (live_in status) contribution in
-      let is : charges ≡ charges_by_pools sums (keep (live_in status) contribution) ranks = q.charges_are
-      ∙ ap (λ (ws : List ℕ). charges_by_pools sums ws ranks) same in
-      let within : (k : ℕ) → get_or charges k 0 ≤ get_or (keep (live_in status) contribution) k 0 = λ k.
-      omega (arith, ap (λ (xs : List ℕ). get_or xs k 0) is, by-pools-within sums (keep (live_in status) contribution) ranks k) in
-      record {
-        charges_are = is;
-        total_is = q.total_is;
-        over_is =
-            q.over_is
-            ∙ exceeds-none charges standing (λ k. omega (arith, within k, ap (λ (xs : List ℕ). get_or xs k 0) e))
-            ∙ sym (exceeds-none charges contribution (λ k. omega (arith, within k, keep-le (live_in status) contribution k)));
-      }
+      rw same at q
 
 -- before the first pool
 pub divided_start : (sums : List ℕ) (status : List Status) (contribution ranks : List ℕ) (whole : ℕ) → length contribution ≡ member_limit

@@ -1,7 +1,6 @@
 -- The laws of a pool's turn and of the last tie, which the proofs of the parts of `charge_by_pools` cite.
 use Prim.Native.Nat.{ℕ, ◌+◌, ◌-◌, ◌*◌, ◌≤◌, ◌<◌}
 use mathlib.Core.Path.{◌≡◌, refl, ap, sym, ◌∙◌}
-use mathlib.Core.Bool.{Bool, false}
 use mathlib.Core.List.{List, [], ◌∷◌}
 use native.Mathlib.Omega.{arith}
 use lib.ListN.{length, get_or, length-map, get_or-map}
@@ -126,8 +125,8 @@ module _ (sum : ℕ) (status : List Status) (ranks : List ℕ) (d : Division) (l
 
 -- the last tie ----------------------------------------------------------------------------
 
-module _ (whole : ℕ) (status : List Status) (contribution : List ℕ) (d : Division) (p : Tiable whole contribution d) (cs : List ℕ) (t rest : ℕ) (over : Bool)
-    (s : Shares (rooms (live_in status) contribution d.charges) (whole - d.total) cs t rest over) where
+module _ (whole : ℕ) (status : List Status) (contribution : List ℕ) (d : Division) (p : Tiable whole contribution d) (cs : List ℕ) (t rest : ℕ)
+    (s : Shares (rooms (live_in status) contribution d.charges) (whole - d.total) cs t rest) where
   abbrev standing : List ℕ
   standing = rooms (live_in status) contribution d.charges
 
@@ -148,11 +147,9 @@ module _ (whole : ℕ) (status : List Status) (contribution : List ℕ) (d : Div
         p.roomy.most_fits k,
       )
 
-  pub tied_so : (charges wide : List ℕ) → charges ≡ plus d.charges cs → wide ≡ charges
-      → Tied standing whole d wide (d.total + t) false
+  pub tied_so : (charges wide : List ℕ) → charges ≡ plus d.charges cs → wide ≡ charges → Tied standing whole d wide (d.total + t)
   tied_so charges wide a b =
       record {
         charges_are = b ∙ a ∙ ap (plus d.charges) s.shares_are;
-        total_is = omega (arith, ap total b, ap total a, total-plus d.charges cs, p.total_is, whole_shared standing (whole - d.total) cs t rest over s);
-        over_is = refl;
+        total_is = omega (arith, ap total b, ap total a, total-plus d.charges cs, p.total_is, whole_shared standing (whole - d.total) cs t rest s);
       }

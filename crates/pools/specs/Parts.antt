@@ -2,7 +2,7 @@
 use Rattle.std.specs.Prelude.{ℕ, zero, suc, ◌+◌, ◌-◌, ◌*◌, ◌≤◌, ◌<◌, ◌≡◌, Bool, false, List, [], ◌∷◌, map, length, get_or, drop}
 use Rattle.lists.specs.Limits.{member_limit, pool_limit, amount_limit, allocation_limit}
 use Rattle.lists.specs.Sums.{total, plus, minus, keep, AtMost}
-use Rattle.split.specs.Split.{share_of, split_of, exceeds}
+use Rattle.split.specs.Split.{share_of, split_of}
 use Rattle.ranks.specs.Ranks.{charges_of}
 use Rattle.figures.specs.declared.Status.{Status}
 use Rattle.figures.specs.Figures.{live_in}
@@ -12,11 +12,10 @@ use Rattle.rooms.specs.Parts.{Roomy}
 use Rattle.pools.specs.Pools.{charges_up_to}
 use Rattle.pools.specs.declared.Division.{Division}
 
--- the charges that were lent are these, with their total, and whether one passes its contribution
-pub record Charges (these contribution charges : List ℕ) (charged : ℕ) (over : Bool) : Type 0 where
+-- the charges that were lent are these, with their total
+pub record Charges (these charges : List ℕ) (charged : ℕ) : Type 0 where
   pub charges_are : charges ≡ these
   pub total_is : charged ≡ total charges
-  pub over_is : over ≡ exceeds charges contribution
 
 -- what one pool is charged with
 pub record Chargeable (status : List Status) (contribution ranks : List ℕ) : Type 0 where
@@ -75,7 +74,6 @@ pub record Tiable (whole : ℕ) (contribution : List ℕ) (d : Division) : Type 
   pub total_is : d.total ≡ total d.charges
   pub total_within : d.total ≤ whole
 
-pub record Tied (standing : List ℕ) (whole : ℕ) (d : Division) (charges : List ℕ) (charged : ℕ) (over : Bool) : Type 0 where
+pub record Tied (standing : List ℕ) (whole : ℕ) (d : Division) (charges : List ℕ) (charged : ℕ) : Type 0 where
   pub charges_are : charges ≡ plus d.charges (split_of (gives (whole - d.total) (total standing)) standing)
   pub total_is : charged ≡ total charges
-  pub over_is : over ≡ false

@@ -13,7 +13,7 @@ ghost use Rattle.pools.specs.Pools.{losses_after, joined_pool, sums_of, charges_
 ghost use Rattle.pools.specs.Parts.{Charges, Chargeable, Poolable, Divided, Divisible, PoolCharged, Tiable, Tied, shares};
 
 use figures::{Status, add_to, of_live, take_from, total, widened};
-use ranks::{Charged, charge_by_rank};
+use ranks::charge_by_rank;
 use rooms::share_rooms;
 use split::share;
 use std::array;
@@ -58,18 +58,18 @@ pub fn sums_of(given: u64, fallen: u64, losses: &mut [u64])
     losses[p] += fallen - met;
 }
 
-// One pool: a sum charged to the live members by its ranks, over their contributions or their portions of them. These are no one struct with the status,
-// which `Division::charge` pairs with its own portions.
+// One pool: a sum charged to the live members by its ranks, over their contributions or their portions of them. The answer is the total of the charges.
+// These are no one struct with the status, which `Division::charge` pairs with its own portions.
 fn charge_others(
     status: &[Status; 64],
     contribution: &[u32; 64],
     sum: u64,
     ranks: &[u8],
     charges: &mut [u64; 64],
-) -> Charged
+) -> u64
     requires moderate { sum ≤ allocation_limit }
     requires chargeable { Chargeable status.now contribution.now ranks.now }
-    ensures { Charges (charges_of sum (keep (live_in status.now) contribution.now) ranks.now) contribution.now charges.new result.total result.over }
+    ensures { Charges (charges_of sum (keep (live_in status.now) contribution.now) ranks.now) charges.new result }
 {
     // "Only ranks of live members other than the defaulter are read": the others' count as 0, which is no rank. (Bytes, and no
     // options, as in `ranks::Ranked`.)
@@ -118,30 +118,27 @@ impl Division {
         let mut charges = [0; 64];
         let charged = charge_others(status, &portions, sum, ranks, &mut charges);
         take_from(&mut self.left, &widened(&portions));
-        add_to(&mut self.charges, &charges, charged.total);
+        add_to(&mut self.charges, &charges, charged);
         self.rest -= sum;
-        self.total += charged.total;
+        self.total += charged;
     }
 
-    // "What the pools cannot meet falls in one sum, after the last pool, on all contributions still standing as one tie."
+    // "What the pools cannot meet falls in one sum, after the last pool, on all contributions still standing as one tie." The answer is the total of all
+    // charges, the pools' and the tie's.
     fn tie(
         mut self,
         whole: u64,
         status: &[Status; 64],
         contribution: &[u32; 64],
         charges: &mut [u64; 64],
-    ) -> Charged
+    ) -> u64
         requires { Tiable whole contribution.now self }
-        ensures { Tied (rooms (live_in status.now) contribution.now self.charges) whole self charges.new result.total result.over }
+        ensures { Tied (rooms (live_in status.now) contribution.now self.charges) whole self charges.new result }
     {
         let tie = share_rooms(status, contribution, &self.charges, whole - self.total);
         add_to(&mut self.charges, &tie.shares, tie.total);
         *charges = widened(&self.charges);
-        Charged {
-            total: self.total + tie.total,
-            // The pools' charges and the tie's are within what they are drawn from: their contracts prove it.
-            over: false,
-        }
+        self.total + tie.total
     }
 }
 
@@ -171,16 +168,16 @@ fn charge_pools(
 }
 
 // Layer 4: the sums of the pools charged to the live members. With one pool the portions are the contributions themselves, and nothing is left for a
-// tie. The charges are lent, and written whole, as in `charge_by_rank`.
+// tie. The charges are lent, and written whole; the answer is their total, as in `charge_by_rank`.
 pub fn charge_by_pools(
     sums: &[u64],
     status: &[Status; 64],
     contribution: &[u32; 64],
     ranks: &[u8],
     charges: &mut [u64; 64],
-) -> Charged
+) -> u64
     requires { Poolable sums.now status.now contribution.now ranks.now }
-    ensures { Charges (charges_by_pools sums.now (keep (live_in status.now) contribution.now) ranks.now) contribution.now charges.new result.total result.over }
+    ensures { Charges (charges_by_pools sums.now (keep (live_in status.now) contribution.now) ranks.now) charges.new result }
 {
     let whole = total(sums);
     if sums.len() == 1 {

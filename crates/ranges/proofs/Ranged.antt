@@ -60,7 +60,7 @@ module _ (status : List Status) (member : ℕ) (losses : Losses) (ranks : List �
 pub placeable : (r : Register) (member : ℕ) (losses : Losses) (ranks : List ℕ) (slip : ℕ) → Ranged r.status member losses ranks slip → (loss : ℕ)
     → loss ≤ losses.high → Placeable r member loss ranks
 placeable r member losses ranks slip known loss within =
-    admits r.status member loss ranks half (known.admitted loss within half (omega arith)) None
+    admits r.status member loss ranks half (known.admitted loss within half (omega arith))
 
 -- a range that is answered was not refused
 pub is_unrefused : (found : Option Refusal) (x : Ranges) → is_ok (answered found x) ≡ true → found ≡ None

@@ -14,14 +14,14 @@ use Rattle.figures.specs.Figures.{figure}
 use Rattle.figures.proofs.Figures.{figure-le}
 use Rattle.admission.specs.Admission.{loss_of, one_pool}
 use Rattle.admission.specs.declared.Pools.{Pools}
-use Rattle.admission.proofs.Admitted.{Admitted}
+use Rattle.admission.proofs.Admitted.{Admitted, admits}
 use Rattle.waterfall.specs.Register.{Register, GivenBack}
-use Rattle.waterfall.specs.Default.{fallen_call, charges, calls, shortfall, allocation_of}
+use Rattle.waterfall.specs.Default.{fallen_call, charges, calls, shortfall, allocation_of, default_refusal}
 use Rattle.waterfall.specs.Pools.{loss_together}
 use Rattle.waterfall.specs.Reply.{allocated}
 use Rattle.waterfall.proofs.Default.{charges_read, calls_read}
 use Rattle.waterfall.proofs.Given.{length-calls}
-use Rattle.waterfall.proofs.OnePool.{together, charged_rightly, unrefused_by-rule}
+use Rattle.waterfall.proofs.OnePool.{together, charged_rightly}
 use Rattle.waterfall.proofs.Growth.{each_layer-grows, member_charge-grows, member_call-grows, shortfall_grows}
 use Rattle.drill.specs.Counting.{accepted}
 use Rattle.drill.proofs.OnePool.{accepted_by-rule, by_rule}
@@ -52,7 +52,8 @@ module _ (r : Register) (g : GivenBack r) (member : ℕ) (ranks : List ℕ) wher
   -- of a default
   module _ (pools : Pools) (one : pools.count ≡ 1) (own : List ℕ) (a : Admitted r.status member (loss_of pools 0) ranks (length own)) where
     is_accepted : accepted (default_seen r member ranks pools own) ≡ true
-    is_accepted = accepted_by-rule r g member ranks pools one own (unrefused_by-rule r g member pools one ranks own a)
+    unfolding default_refusal
+    is_accepted = accepted_by-rule r g member ranks pools one own (admits r.status member (loss_of pools 0) ranks (length own) a)
 
     default_gives : (f : Figure) → figure_in f (default_seen r member ranks pools own) ≡ given f (loss_of pools 0)
     default_gives fallen = (by_rule r g member ranks pools one own is_accepted).fallen_is

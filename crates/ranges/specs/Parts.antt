@@ -8,7 +8,7 @@ use Rattle.ranges.specs.Ranges.{half}
 
 -- a default with one pool that 11 to 15 do not refuse, lent a slip of 128 numbers
 abbrev pub Placeable : Register → ℕ → ℕ → List ℕ → Type 0
-Placeable r member loss ranks = admission r.status member loss ranks half None ≡ None
+Placeable r member loss ranks = admission r.status member loss ranks half ≡ None
 
 -- it is placed as the rules say
 pub record PlacedAt (r : Register) (member loss : ℕ) (ranks : List ℕ) (x : Placed) : Type 0 where

@@ -16,11 +16,11 @@ use Rattle.lists.proofs.Places.{by_order, raised}
 use Rattle.lists.proofs.Sums.{zeros, total_zeros, get_or_zeros, total-plus, plus_assoc, plus_none, none-plus, length-keep, keep-le, cond-le, keep-map_step}
 use Rattle.split.specs.Parts.{Splits}
 use Rattle.split.specs.Split.{split_of}
-use Rattle.split.proofs.Laws.{total_within, total_of-none, split-le, split-within, split_whole, exceeds-none, splits_as}
+use Rattle.split.proofs.Laws.{total_within, total_of-none, split-le, split_whole, splits_as}
 use Rattle.ranks.specs.Ranks.{at_rank, rank_gives, charges_from, charges_of}
 use Rattle.ranks.specs.Parts.{Weighed, Totals, Passed, Marginal, Shared, above_rank}
 use Rattle.ranks.specs.declared.Margin.{Margin}
-use Rattle.ranks.proofs.Laws.{length_at, length-shares, length_from, total_from, length-charges, charges-within, charge-within}
+use Rattle.ranks.proofs.Laws.{length_at, length-shares, length_from, total_from, length-charges, charges-within}
 
 -- the totals by rank ---------------------------------------------------------------
 
@@ -189,5 +189,5 @@ module _ (sum : ℕ) (ws rs : List ℕ) where
 pub uncharged : (sum : ℕ) (ws rs : List ℕ) → sum ≡ 0 → length ws ≡ member_limit → length rs ≡ member_limit → charges_of sum ws rs ≡ replicate member_limit 0
 uncharged sum ws rs z n m = sym (zeros member_limit (charges_of sum ws rs) (length-charges sum ws rs (omega arith) ∙ n) (omega (arith, charges-within sum ws rs)))
 
--- and else they are the marginal rank's shares, none of which is above its weight, with the ranks above charged whole
-pub ruleset charging = (uncharged, charges-within, charge-within, exceeds-none, split-le, split-within)
+-- and else they are the marginal rank's shares, with the ranks above charged whole
+pub ruleset charging = (uncharged, charges-within, split-le)

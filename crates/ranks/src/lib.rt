@@ -7,7 +7,7 @@
 ghost use Rattle.std.specs.Prelude.{◌≡◌, ℕ, Bool, ◌≤◌, ◌-◌, length, MatchOption};
 ghost use Rattle.lists.specs.Limits.{member_limit, rank_limit, allocation_limit};
 ghost use Rattle.lists.specs.Sums.{total, plus, AtMost};
-ghost use Rattle.split.specs.Split.{split_of, exceeds};
+ghost use Rattle.split.specs.Split.{split_of};
 ghost use Rattle.ranks.specs.Ranks.{at_rank, charges_of};
 ghost use Rattle.ranks.specs.Parts.{Weighed, Totals, Passed, Next, Marginal, Shared, Answers, chosen_by, above_rank};
 
@@ -15,14 +15,6 @@ use lists::{RANK_LIMIT, RANKS};
 
 // A place for each rank. Place 0 takes what has no rank, so that no loop tests for it.
 const PLACES: usize = RANKS + 1;
-
-// The total of the charges, and whether one comes out above its weight.
-#[derive(Drop)]
-pub struct Charged {
-    pub total: u64,
-    // A flag, and no Result: the total and the charges are promised either way, and an error would carry no total.
-    pub over: bool,
-}
 
 // Each member's weight and rank. Rank 0 is none, and nobody of it is charged: the ranks are bytes as they were lent, and no list of options is made.
 #[derive(Drop)]
@@ -131,20 +123,18 @@ impl Ranked<'_> {
 }
 
 impl Margin {
-    // What the rank gives, shared over its members' weights: the charges are the shares, and the answer is the flag of the split. Where the rank gives
-    // nothing, nothing is split.
+    // What the rank gives, shared over its members' weights: the charges are the shares. Where the rank gives nothing, nothing is split.
     #[tactic(auto, using(split::proofs::Laws::none_shared, crate::proofs::Parts::shares_asked, crate::proofs::Laws::length_at))]
-    fn share(self, ranked: &Ranked, charges: &mut [u64; 64]) -> bool
+    fn share(self, ranked: &Ranked, charges: &mut [u64; 64])
         requires { Shared self (at_rank self.rank ranked.now.weights.now ranked.now.ranks.now) }
-        ensures charges_after { charges.new ≡ split_of self.part (at_rank self.rank ranked.now.weights.now ranked.now.ranks.now) }
-        ensures over_is { let tied = at_rank self.rank ranked.now.weights.now ranked.now.ranks.now in result ≡ exceeds (split_of self.part tied) tied }
+        ensures { charges.new ≡ split_of self.part (at_rank self.rank ranked.now.weights.now ranked.now.ranks.now) }
     {
         if self.part == 0 {
             *charges = [0; 64];
-            return false;
+            return;
         }
         let tied = ranked.weights_at(self.rank);
-        split::split(self.part, self.whole, &tied, charges)
+        split::split(self.part, self.whole, &tied, charges);
     }
 
     // The ranks above are charged whole: their weights are added to the charges. Where they have nothing, nothing is added.
@@ -162,33 +152,26 @@ impl Margin {
 }
 
 // `sum` charged to `weights` by rank, into charges that are lent, and written whole: with the charges handed back by value, which proved, a default
-// took 4,219 instructions, where it took 3,844. The total needs no second addition: it is the sum, less what no rank could give.
+// took 4,219 instructions, where it took 3,844. The answer is their total, which needs no second addition: it is the sum, less what no rank could give.
 #[tactic(auto, using(crate::proofs::Parts::charging))]
 pub fn charge_by_rank(
     sum: u64,
     weights: &[u32; 64],
     ranks: &[u8; 64],
     charges: &mut [u64; 64],
-) -> Charged
+) -> u64
     requires moderate { sum ≤ allocation_limit }
     requires weighed { Weighed weights.now ranks.now }
     ensures charges_after { charges.new ≡ charges_of sum weights.now ranks.now }
-    ensures total_is { result.total ≡ total (charges_of sum weights.now ranks.now) }
-    ensures over_is { result.over ≡ exceeds (charges_of sum weights.now ranks.now) weights.now }
+    ensures total_is { result ≡ total (charges_of sum weights.now ranks.now) }
 {
     if sum == 0 {
         *charges = [0; 64];
-        return Charged {
-            total: 0,
-            over: false,
-        };
+        return 0;
     }
     let ranked = Ranked { weights, ranks };
     let margin = ranked.margin(sum);
-    let over = margin.share(&ranked, charges);
+    margin.share(&ranked, charges);
     margin.charge_above(&ranked, charges);
-    Charged {
-        total: margin.total,
-        over,
-    }
+    margin.total
 }

@@ -45,8 +45,6 @@ number_of Refusal.UnfitPayment = 16
 number_of Refusal.UnfitReplenishment = 17
 -- 18. "A close finds an outstanding call."
 number_of Refusal.CallOutstanding = 18
--- 19. "A share comes out above the pocket, or in layer 6 the rest of the cap, it is drawn from."
-number_of Refusal.Overdrawn = 19
 -- 20, document 02, request 1
 number_of Refusal.Unprintable = 20
 -- 21, document 02, request 3: "pool count not 1 to 4"

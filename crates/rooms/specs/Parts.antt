@@ -1,8 +1,8 @@
 -- What the parts of `rooms` promise each other and their callers. No rule of document 01 is here.
-use Rattle.std.specs.Prelude.{ℕ, ◌-◌, ◌≤◌, ◌≡◌, Bool, List, get_or}
+use Rattle.std.specs.Prelude.{ℕ, ◌-◌, ◌≤◌, ◌≡◌, List, get_or}
 use Rattle.lists.specs.Limits.{amount_limit}
 use Rattle.lists.specs.Sums.{total, AtMost}
-use Rattle.split.specs.Split.{split_of, exceeds}
+use Rattle.split.specs.Split.{split_of}
 use Rattle.rooms.specs.Rooms.{gives}
 
 -- what rooms are found with
@@ -14,9 +14,8 @@ pub record Roomy (most taken : List ℕ) : Type 0 where
 abbrev pub Leaves : ℕ → ℕ → ℕ → ℕ → Type 0
 Leaves left has given rest = (given ≡ gives left has) × (rest ≡ left - gives left has)
 
--- the shares over the rooms, their total, what is left after them, and whether one passes its room
-pub record Shares (rooms : List ℕ) (left : ℕ) (shares : List ℕ) (given rest : ℕ) (over : Bool) : Type 0 where
+-- the shares over the rooms, their total, and what is left after them
+pub record Shares (rooms : List ℕ) (left : ℕ) (shares : List ℕ) (given rest : ℕ) : Type 0 where
   pub total_is : given ≡ gives left (total rooms)
   pub rest_is : rest ≡ left - gives left (total rooms)
   pub shares_are : shares ≡ split_of (gives left (total rooms)) rooms
-  pub over_is : over ≡ exceeds shares rooms

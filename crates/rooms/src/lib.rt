@@ -19,14 +19,12 @@ pub struct Given {
     pub left: u64,
 }
 
-/// The shares, their total, what is left after them, and whether one passes its room.
+/// The shares, their total, and what is left after them.
 #[derive(Drop)]
 pub struct Shared {
     pub shares: [u64; 64],
     pub total: u64,
     pub left: u64,
-    // A flag, and no Result: the shares and their total are promised either way, and an error would carry neither.
-    pub over: bool,
 }
 
 // "each giving all it has or all that is left to place"
@@ -53,25 +51,23 @@ fn rooms_of(status: &[Status; 64], most: &[u32; 64], taken: &[u32; 64]) -> [u64;
 pub fn share_rooms(status: &[Status; 64], most: &[u32; 64], taken: &[u32; 64], left: u64) -> Shared
     requires roomy { Roomy most.now taken.now }
     requires moderate { left ≤ allocation_limit }
-    ensures { Shares (rooms (live_in status.now) most.now taken.now) left result.shares result.total result.left result.over }
+    ensures { Shares (rooms (live_in status.now) most.now taken.now) left result.shares result.total result.left }
 {
     if left == 0 {
         return Shared {
             shares: [0; 64],
             total: 0,
             left: 0,
-            over: false,
         };
     }
     let rooms = rooms_of(status, most, taken);
     let whole = total(&rooms);
     let step = layer(left, whole);
     let mut shares = [0; 64];
-    let over = split(step.gives, whole, &rooms, &mut shares);
+    split(step.gives, whole, &rooms, &mut shares);
     Shared {
         shares,
         total: step.gives,
         left: step.left,
-        over,
     }
 }

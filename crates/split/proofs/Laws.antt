@@ -1,24 +1,19 @@
 -- The laws of `split_of`: what the callers of `split` know of its shares.
 use Prim.Native.Nat.{ℕ, zero, suc, ◌+◌, ◌-◌, ◌*◌, ◌/◌, ◌≤◌, ◌<◌, zero-le}
 use mathlib.Core.Path.{◌≡◌, refl, ap, sym, ◌∙◌}
-use mathlib.Core.Bool.{true, false}
 use mathlib.Core.List.{List, [], ◌∷◌, ◌++◌}
 use mathlib.Core.Logic.{◌⊎◌, inl, ⊎_elim}
 use native.Mathlib.Nat.{mul-add, add-mul, mul_comm, zero-mul, zero-div, div-zero, div-mul-le_self, lt-div-mul-add, mul-le-mul, mul-le-mul_left, mul-le-mul_right, div-le_of_le-mul, div-lt_iff_lt-mul, mul-lt-mul_of_pos_left, mul-div_right, mul-div_left, le-div_iff_mul-le, eq-zero-or-pos, sub-zero}
 use native.Mathlib.Numerals.{add-one}
 use native.Mathlib.Omega.{arith}
-use borrow.Author.Tests.{lt-ltb, le-ltb}
-use Rattle.std.proofs.lemmas.Bool.{or_left, or_right}
 use Rattle.std.proofs.lemmas.List.{at_drop_more, set-get_or, take-append-drop}
-use lib.Dec.{ltb}
 use lib.ListN.{length, get_or, take, drop, set, replicate, length-drop}
 use lib.Seq.{drop-cons, drop-set-lt}
 use Rattle.lists.specs.Limits.{member_limit, amount_limit, allocation_limit}
 use Rattle.lists.specs.Sums.{total}
 use Rattle.lists.proofs.Fill.{fill_turn}
 use Rattle.lists.proofs.Sums.{get_or-le-total, zeros}
-use Rattle.lists.proofs.Places.{by_order}
-use Rattle.split.specs.Split.{share_of, split_of, exceeds}
+use Rattle.split.specs.Split.{share_of, split_of}
 use Rattle.split.specs.Parts.{Splits, product_limit}
 
 -- one share ------------------------------------------------------------------
@@ -217,59 +212,21 @@ split_grows [] h k = zero-le
 split_grows (w ∷ ws) h zero = share_grows w (w + total ws) h
 split_grows (w ∷ ws) h (suc k) = split_grows ws (share-leaves w (w + total ws) (omega arith) h) k
 
--- where no share is above its weight, none is found to be
-pub exceeds-none : (shares weights : List ℕ) → ((k : ℕ) → get_or shares k 0 ≤ get_or weights k 0) → exceeds shares weights ≡ false
-unfolding exceeds
-exceeds-none [] weights h = refl
-exceeds-none (s ∷ shares) [] h = rw (le-ltb 0 s (h 0), exceeds-none shares [] (λ k. h (suc k)))
-exceeds-none (s ∷ shares) (w ∷ weights) h = rw (le-ltb w s (h 0), exceeds-none shares weights (λ k. h (suc k)))
-
--- shares that add to more than the weights: one is above its own
-exceeds-some : (shares weights : List ℕ) → length shares ≡ length weights → total weights < total shares → exceeds shares weights ≡ true
-unfolding exceeds
-exceeds-some [] weights e h = absurd (omega arith)
-exceeds-some (s ∷ shares) [] e h = absurd (omega arith)
-exceeds-some (s ∷ shares) (w ∷ weights) e h =
-    ⊎_elim
-    (λ z. or_right (ltb w s) (exceeds shares weights) (exceeds-some shares weights (omega arith) (omega arith)))
-    (λ p. or_left (ltb w s) (exceeds shares weights) (lt-ltb w s (omega arith)))
-    (eq-zero-or-pos (s - w))
-
--- so, where there is a weight, one is above its own where the sum is above them all, and else none is
-pub exceeds_is : (l : ℕ) (ws : List ℕ) → 0 < total ws → exceeds (split_of l ws) ws ≡ ltb (total ws) l
-exceeds_is l ws p =
-    by_order
-    (total ws)
-    l
-    (λ a. exceeds-some (split_of l ws) ws (length-split l ws) (omega (arith, total-split l ws p)) ∙ sym (lt-ltb (total ws) l a))
-    (λ e. within (omega arith))
-    (λ b. within (omega arith))
-  where
-    within : l ≤ total ws → exceeds (split_of l ws) ws ≡ ltb (total ws) l
-    within h = exceeds-none (split_of l ws) ws (split-within l ws h) ∙ sym (le-ltb (total ws) l h)
-
 -- where nothing is divided ------------------------------------------------------------
 
--- a sum of all the weights gives each its weight, and nobody more
-pub weights_shared : (l : ℕ) (ws : List ℕ) → l ≡ total ws → (ws ≡ split_of l ws) × (false ≡ exceeds (split_of l ws) ws)
-weights_shared l ws e =
-    rw (e, split_whole ws) (refl, sym (exceeds-none ws ws (λ k. omega arith)))
-
 -- a sum of 0, or weights of 0 alone, give everybody 0
-pub nothing_shared : (n l : ℕ) (ws : List ℕ) → length ws ≡ n → (l ≡ 0) ⊎ (total ws ≡ 0) → (replicate n 0 ≡ split_of l ws) × (false ≡ exceeds (split_of l ws) ws)
+pub nothing_shared : (n l : ℕ) (ws : List ℕ) → length ws ≡ n → (l ≡ 0) ⊎ (total ws ≡ 0) → replicate n 0 ≡ split_of l ws
 nothing_shared n l ws h e =
-    let z : total (split_of l ws) ≡ 0 = ⊎_elim (λ s. omega (arith, total_within l ws (omega arith))) (λ w. total-none l ws w) e in (
-      zeros n (split_of l ws) (length-split l ws ∙ h) z,
-      sym (exceeds-none (split_of l ws) ws (λ k. omega (arith, get_or-le-total (split_of l ws) k))),
-    )
+    let z : total (split_of l ws) ≡ 0 = ⊎_elim (λ s. omega (arith, total_within l ws (omega arith))) (λ w. total-none l ws w) e in
+    zeros n (split_of l ws) (length-split l ws ∙ h) z
 
 -- a sum of 0 among the members
-pub none_shared : (l : ℕ) (ws : List ℕ) → l ≡ 0 → length ws ≡ member_limit → (replicate member_limit 0 ≡ split_of l ws) × (false ≡ exceeds (split_of l ws) ws)
+pub none_shared : (l : ℕ) (ws : List ℕ) → l ≡ 0 → length ws ≡ member_limit → replicate member_limit 0 ≡ split_of l ws
 none_shared l ws e h = nothing_shared member_limit l ws h (inl e)
 
 -- the shares one by one -----------------------------------------------------------
 
-pub split_step : (l : ℕ) (ws : List ℕ) (i s : ℕ) → i < length ws → s ≡ share_of l (get_or ws i 0) (total (drop i ws))
+split_step : (l : ℕ) (ws : List ℕ) (i s : ℕ) → i < length ws → s ≡ share_of l (get_or ws i 0) (total (drop i ws))
     → split_of l (drop i ws) ≡ s ∷ split_of (l - s) (drop (i + 1) ws)
 unfolding split_of
 split_step l ws i s h e = rw (e, add-one, drop-cons ws i 0)

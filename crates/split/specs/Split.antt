@@ -1,5 +1,5 @@
 -- Document 01, "The split": a sum shared over weights, in rising order.
-use Rattle.std.specs.Prelude.{ℕ, ◌+◌, ◌-◌, ◌*◌, ◌/◌, Bool, false, ◌||◌, List, [], ◌∷◌, ltb}
+use Rattle.std.specs.Prelude.{ℕ, ◌+◌, ◌-◌, ◌*◌, ◌/◌, List, [], ◌∷◌}
 use Rattle.lists.specs.Sums.{total}
 
 -- "w times the sum still left, divided by the weights still left (its own included), rounded down". A weight of 0 takes 0, also where no
@@ -12,9 +12,3 @@ unfoldable pub split_of : ℕ → List ℕ → List ℕ
 split_of left [] = []
 split_of left (w ∷ ws) =
     share_of left w (w + total ws) ∷ split_of (left - share_of left w (w + total ws)) ws
-
--- whether a share comes out above the weight, or the pocket, that it is drawn from
-unfoldable pub exceeds : List ℕ → List ℕ → Bool
-exceeds [] weights = false
-exceeds (s ∷ shares) [] = ltb 0 s || exceeds shares []
-exceeds (s ∷ shares) (w ∷ weights) = ltb w s || exceeds shares weights

@@ -4,7 +4,7 @@
 
 ghost use Rattle.std.specs.Prelude.{◌≡◌, ◌≢◌, ◌*◌, ◌≤◌, ◌<◌};
 ghost use Rattle.lists.specs.Sums.{total};
-ghost use Rattle.split.specs.Split.{share_of, split_of, exceeds};
+ghost use Rattle.split.specs.Split.{share_of, split_of};
 ghost use Rattle.split.specs.Parts.{Splits, product_limit};
 
 // One weight's share of what is left of the sum: a turn of the split, and its only division. Nobody asks for a share of nothing, for that of a weight of
@@ -43,25 +43,21 @@ fn share_each(sum: u64, whole: u64, weights: &[u64], shares: &mut [u64])
     }
 }
 
-// `sum` shared over `weights`, whose total is `whole`: callers have it, so it is not added up again. The answer is whether a share comes out
-// above its weight: a flag, and no Result, for the shares are promised either way, and fund sizing leaves it unread.
-#[tactic(auto, using(crate::proofs::Laws::weights_shared, crate::proofs::Laws::nothing_shared))]
-pub fn split(sum: u64, whole: u64, weights: &[u64], shares: &mut [u64]) -> bool
+// `sum` shared over `weights`, whose total is `whole`: callers have it, so it is not added up again.
+#[tactic(auto, using(crate::proofs::Laws::nothing_shared))]
+pub fn split(sum: u64, whole: u64, weights: &[u64], shares: &mut [u64])
     requires { Splits sum whole weights.now shares.old }
-    ensures shares_after { shares.new ≡ split_of sum weights.now }
-    ensures over_is { result ≡ exceeds (split_of sum weights.now) weights.now }
+    ensures { shares.new ≡ split_of sum weights.now }
 {
     // A sum of all the weights gives each its weight.
     if sum == whole {
         shares.copy_from_slice(weights);
-        return false;
+        return;
     }
     shares.fill(0);
     // Nothing to share, or nobody to share it among.
     if sum == 0 || whole == 0 {
-        return false;
+        return;
     }
     share_each(sum, whole, weights, shares);
-    // Where there is a weight, some share is above its own just where the sum is above them all.
-    whole < sum
 }

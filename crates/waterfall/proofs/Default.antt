@@ -10,12 +10,12 @@ use lib.Seq.{take_at, drop_at}
 use Rattle.lists.specs.Limits.{member_limit}
 use Rattle.lists.specs.Sums.{total, minus}
 use Rattle.lists.proofs.Sums.{get_or-minus, keep-le}
-use Rattle.split.proofs.Laws.{exceeds-none, split-within, split_whole}
+use Rattle.split.proofs.Laws.{split-within, split_whole}
 use Rattle.figures.specs.Figures.{is_live, figure, replace, others}
 use Rattle.figures.specs.declared.Status.{Status}
 use Rattle.figures.proofs.Figures.{live_at}
 use Rattle.waterfall.specs.Default.{standing_of, rooms_of, fallen_call, to_place, on_margin, after1, on_contribution, after2, on_tranche1, after3, after4}
-use Rattle.waterfall.specs.Default.{on_tranche2, after5, on_calls, calls, shortfall, overdrawn, slip_of}
+use Rattle.waterfall.specs.Default.{on_tranche2, after5, on_calls, calls, shortfall, slip_of}
 use Rattle.waterfall.specs.Register.{Register}
 
 -- a member that is in default, the defaulter too, is none of the others
@@ -136,12 +136,3 @@ module _ (r : Register) (member loss : ℕ) (charged slip : List ℕ) (long : le
       ap (λ (xs : List ℕ). take member_limit (drop member_limit xs)) parted
       ∙ ap (take member_limit) (drop_at charged _ member_limit long)
       ∙ take_at (calls r member loss charged) _ member_limit e
-
--- 19 never comes -------------------------------------------------------------------
-
-pub never-overdrawn : (r : Register) (member loss : ℕ) (charged : List ℕ) → Layer4 r member loss charged → overdrawn r member loss charged ≡ false
-never-overdrawn r member loss charged f =
-    rw (
-      exceeds-none charged r.contribution (charges-within r member loss charged f),
-      exceeds-none (calls r member loss charged) (rooms_of r member) (calls-within r member loss charged),
-    )

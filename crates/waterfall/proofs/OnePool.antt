@@ -1,19 +1,18 @@
 -- "A one-pool default answers as before.": the same answer, register and slip as the default of document 01.
 use Prim.Native.Nat.{ℕ, ◌+◌, ◌*◌, ◌≤◌, ◌<◌}
 use mathlib.Core.Path.{◌≡◌, refl, ap, sym, subst, ◌∙◌}
-use mathlib.Core.Bool.{false, not, true≢false}
+use mathlib.Core.Bool.{false, not}
 use mathlib.Core.List.{List, [], ◌∷◌, map}
 use native.Mathlib.Omega.{arith}
-use borrow.Author.Tests.{ltb-false, eqb-true, not-false}
+use borrow.Author.Tests.{eqb-true, not-false}
 use lib.Dec.{eqb, ltb}
 use lib.ListN.{length, get_or}
 use lib.Seq.{take_all}
 use Rattle.std.specs.Prelude.{Option, Some, None, is_some}
 use Rattle.std.specs.List.{range_with_len}
-use Rattle.lists.specs.Checks.{check}
 use Rattle.lists.specs.Limits.{member_limit, rank_limit, sum_limit}
 use Rattle.lists.specs.Sums.{total}
-use Rattle.lists.proofs.Checks.{check-false, check_same, check_skip}
+use Rattle.lists.proofs.Checks.{check_same, check_skip}
 use Rattle.lists.proofs.Sums.{single, kept_mark, mark-within}
 use Rattle.refusal.specs.declared.Refusal.{Refusal}
 use Rattle.figures.specs.Figures.{status_at, is_absent, is_in-default, others}
@@ -25,13 +24,13 @@ use Rattle.admission.proofs.Ranked.{ranks-read}
 use Rattle.pools.specs.Pools.{charges_by_pools}
 use Rattle.pools.proofs.Laws.{one_pool_lem}
 use Rattle.waterfall.specs.Register.{Register, GivenBack}
-use Rattle.waterfall.specs.Default.{standing_of, charges, calls, after3, allocation_of, settled_of, overdrawn, slip_of, default_refusal, default_of, default_slip}
+use Rattle.waterfall.specs.Default.{standing_of, charges, calls, after3, allocation_of, settled_of, slip_of, default_refusal, default_of, default_slip}
 use Rattle.waterfall.specs.Pools.{loss_together, pool_sums, pooled_charges, pooled_allocation, pooled_refusal, pooled_of, pooled_slip, AsBefore}
 use Rattle.waterfall.specs.Reply.{judged}
 use Rattle.waterfall.specs.Register.{Register}
 use Rattle.layers.specs.declared.Allocation.{Allocation}
 use Rattle.waterfall.proofs.Answer.{is_none}
-use Rattle.waterfall.proofs.Default.{Layer4, never-overdrawn}
+use Rattle.waterfall.proofs.Default.{Layer4}
 use Rattle.waterfall.proofs.Given.{length-others, length-standing}
 use Rattle.waterfall.proofs.Pooled.{length_pool-sums, total_pool-sums, pooled_layer4}
 use Rattle.std.proofs.lemmas.Bool.{or_parts}
@@ -93,44 +92,26 @@ module _ (r : Register) (g : GivenBack r) (member : ℕ) (pools : Pools) (one : 
       ap (pools_misranked (others r.status member) ranks) one
       ∙ ap (misranked (others r.status member)) (take_all member_limit ranks (omega (arith, l)))
 
-  same-admission : (rest rest' : Option Refusal) (slip : ℕ) → (Admitted r.status member loss ranks slip → rest ≡ rest')
-      → pools_admission r.status member pools ranks slip rest ≡ admission r.status member loss ranks slip rest'
-  same-admission rest rest' slip same =
+  same-admission : (slip : ℕ) → pools_admission r.status member pools ranks slip ≡ admission r.status member loss ranks slip
+  same-admission slip =
       check_same (is_absent (status_at r.status member)) (is_absent (status_at r.status member)) (Some Refusal.Unregistered) _ _ refl (λ p11.
       check_same (is_in-default (status_at r.status member)) (is_in-default (status_at r.status member)) (Some Refusal.InDefault) _ _ refl (λ p12.
       check_skip (miscounted pools.count) (Some Refusal.Miscounted) _ _ counted
       (check_same (excessive_losses (losses_of pools)) (ltb sum_limit loss) (Some Refusal.ExcessiveLoss) _ _ thirteen (λ p13.
       check_skip (ltb sum_limit (total (losses_of pools))) (Some Refusal.ExcessiveLosses) _ _ (ap (ltb sum_limit) together ∙ p13)
       (check_same (pools_unready pools.count (length ranks) slip) (unready (length ranks) slip) (Some Refusal.Unready) _ _ (fourteen slip) (λ p14.
-      check_same (pools_misranked (others r.status member) ranks pools.count) (misranked (others r.status member) ranks) (Some Refusal.Misranked) _ _
-      (fifteen (sixty-four slip p14)) (λ p15.
-      same
-      record {
-        present = λ q. true≢false (sym (ap is_absent q) ∙ p11);
-        not_in-default = λ q. true≢false (sym (ap is_in-default q) ∙ p12);
-        loss_fits = ltb-false sum_limit loss p13;
-        ranks_length = sixty-four slip p14;
-        slip-length = ltb-false slip (member_limit + member_limit)
-            (or_parts (not (eqb (length ranks) member_limit)) (ltb slip (member_limit + member_limit)) p14).1;
-        well_ranked = p15;
-      })))))))
+      check_same (pools_misranked (others r.status member) ranks pools.count) (misranked (others r.status member) ranks) (Some Refusal.Misranked) None None
+      (fifteen (sixty-four slip p14)) (λ p15. refl)))))))
 
   -- a default of which all is known that 11 to 15 ask passes them
-  pub one_pool-admits : (slip : ℕ) → Admitted r.status member loss ranks slip → pools_admission r.status member pools ranks slip None ≡ None
-  one_pool-admits slip a = same-admission None None slip (λ _. refl) ∙ admits r.status member loss ranks slip a None
+  pub one_pool-admits : (slip : ℕ) → Admitted r.status member loss ranks slip → pools_admission r.status member pools ranks slip ≡ None
+  one_pool-admits slip a = same-admission slip ∙ admits r.status member loss ranks slip a
 
   pub charged_rightly : (slip : ℕ) → Admitted r.status member loss ranks slip → Layer4 r member loss (charges r member loss ranks)
   charged_rightly slip a =
       let each-ranked : length ranks ≡ member_limit * pools.count = a.ranks_length ∙ ap (λ (n : ℕ). member_limit * n) (sym one) in
       subst (λ (l : ℕ). Layer4 r member l (charges r member loss ranks)) together
       (subst (Layer4 r member (loss_together pools)) (same-charges slip a) (pooled_layer4 r member pools (omega arith) (omega arith) g ranks each-ranked))
-
-  -- and 19
-  pub unrefused_by-rule : (slip : List ℕ) → Admitted r.status member loss ranks (length slip) → default_refusal r member loss ranks slip ≡ None
-  unfolding default_refusal
-  unrefused_by-rule slip a =
-      admits r.status member loss ranks (length slip) a _
-      ∙ sym (check-false _ _ _ (never-overdrawn r member loss (charges r member loss ranks) (charged_rightly (length slip) a)) refl)
 
   -- it allocates and calls the same
   pub one_pool-allocation : (slip : ℕ) → Admitted r.status member loss ranks slip
@@ -146,16 +127,12 @@ module _ (r : Register) (g : GivenBack r) (member : ℕ) (pools : Pools) (one : 
 
   same-refusal : (slip : List ℕ) → pooled_refusal r member pools ranks slip ≡ default_refusal r member loss ranks slip
   unfolding pooled_refusal default_refusal
-  same-refusal slip =
-      same-admission _ _ (length slip)
-      (λ a.
-      ap (λ (l : ℕ). check (overdrawn r member l (pooled_charges r member pools ranks)) (Some Refusal.Overdrawn) None) together
-      ∙ ap (λ (cs : List ℕ). check (overdrawn r member loss cs) (Some Refusal.Overdrawn) None) (same-charges (length slip) a))
+  same-refusal slip = same-admission (length slip)
 
   -- where nothing is refused
   unrefused_admitted : (slip : List ℕ) → default_refusal r member loss ranks slip ≡ None → Admitted r.status member loss ranks (length slip)
   unfolding default_refusal
-  unrefused_admitted slip e = admitted r.status member loss ranks (length slip) _ e
+  unrefused_admitted slip e = admitted r.status member loss ranks (length slip) e
 
   one_pool-answers : (slip : List ℕ) → pooled_of r member pools ranks slip ≡ default_of r member loss ranks slip
   unfolding pooled_of default_of

@@ -1,17 +1,14 @@
 -- A default as the code does it: its layers one after the other, its refusals, and what is settled.
 use Prim.Native.Nat.{ℕ, ◌+◌, ◌-◌, ◌≤◌, ◌<◌}
-use mathlib.Core.Path.{◌≡◌, refl, ap, sym, ◌∙◌}
-use mathlib.Core.Bool.{Bool, true, false}
+use mathlib.Core.Path.{◌≡◌, refl, ap, ◌∙◌}
 use mathlib.Core.List.{List, ◌++◌}
 use native.Mathlib.Omega.{arith}
 use lib.ListN.{length, get_or, drop}
 use lib.Seq.{get_or-set_same}
-use Rattle.std.specs.Prelude.{Option, Some, None, Ok, Err}
-use Rattle.std.specs.Option.{option_or}
+use Rattle.std.specs.Prelude.{Some, None, Ok, Err}
 use Rattle.lists.specs.Checks.{check}
 use Rattle.lists.specs.Limits.{member_limit, amount_limit}
 use Rattle.lists.specs.Sums.{total}
-use Rattle.lists.proofs.Checks.{check-true, check-false}
 use Rattle.lists.proofs.Places.{set_all}
 use Rattle.lists.proofs.Sums.{unkept}
 use Rattle.refusal.specs.declared.Refusal.{Refusal}
@@ -19,9 +16,9 @@ use Rattle.split.specs.Split.{split_of}
 use Rattle.figures.specs.Figures.{live_in, figure, replace, others}
 use Rattle.figures.specs.declared.Status.{Status}
 use Rattle.figures.proofs.Figures.{figure_bound, place_of}
-use Rattle.admission.specs.Admission.{losses_of, pools_admission}
+use Rattle.admission.specs.Admission.{losses_of}
 use Rattle.admission.specs.declared.Pools.{Pools}
-use Rattle.admission.proofs.Admitted.{PoolsAdmitted, pools_admitted, pools_admission_or}
+use Rattle.admission.proofs.Admitted.{PoolsAdmitted, pools_admitted}
 use Rattle.rooms.specs.Rooms.{gives, rooms}
 use Rattle.rooms.proofs.Shares.{layer_as, whole_shared}
 use Rattle.pools.specs.Pools.{sums_of, charges_by_pools}
@@ -29,7 +26,7 @@ use Rattle.layers.specs.Parts.{Allocatable, GoesDown, estate_of}
 use Rattle.layers.specs.declared.Placed.{Placed}
 use Rattle.waterfall.specs.Register.{Register, GivenBack}
 use Rattle.waterfall.specs.Default.{standing_of, rooms_of, fallen_call, to_place, on_margin, after1, on_contribution, after2, on_tranche1, after3, after4}
-use Rattle.waterfall.specs.Default.{on_tranche2, after5, on_calls, calls, shortfall, allocation_of, settled_of, overdrawn, slip_of}
+use Rattle.waterfall.specs.Default.{on_tranche2, after5, on_calls, calls, shortfall, allocation_of, settled_of, slip_of}
 use Rattle.waterfall.specs.Pools.{loss_together, given_before, pool_sums, pooled_charges, pooled_allocation, pooled_refusal, pooled_of, pooled_slip}
 use Rattle.layers.specs.declared.Allocation.{Allocation}
 use Rattle.waterfall.specs.Parts.{settled_as, Settles}
@@ -43,28 +40,9 @@ use Rattle.waterfall.proofs.Pooled.{pooled_layer4}
 -- the refusals --------------------------------------------------------------------------
 
 module _ (r : Register) (member : ℕ) (pools : Pools) (ranks slip : List ℕ) where
-  abbrev pub early : Option Refusal
-  early = pools_admission r.status member pools ranks (length slip) None
-
-  abbrev pub overdraws : Bool
-  overdraws = overdrawn r member (loss_together pools) (pooled_charges r member pools ranks)
-
-  -- 11 to 15, 21 and 22, and 19 behind them
-  in_turn : pooled_refusal r member pools ranks slip ≡ option_or early (check overdraws (Some Refusal.Overdrawn) None)
+  pub admitted : pooled_refusal r member pools ranks slip ≡ None → PoolsAdmitted r.status member pools ranks (length slip)
   unfolding pooled_refusal
-  in_turn = pools_admission_or r.status member pools ranks (length slip) _
-
-  pub refused_early : {refusal : Refusal} → early ≡ Some refusal → pooled_refusal r member pools ranks slip ≡ Some refusal
-  refused_early {refusal} e = in_turn ∙ ap (λ (o : Option Refusal). option_or o (check overdraws (Some Refusal.Overdrawn) None)) e
-
-  pub refused_late : early ≡ None → overdraws ≡ true → pooled_refusal r member pools ranks slip ≡ Some Refusal.Overdrawn
-  refused_late e o = in_turn ∙ ap (λ (x : Option Refusal). option_or x (check overdraws (Some Refusal.Overdrawn) None)) e ∙ sym (check-true _ _ _ o refl)
-
-  pub unrefused : early ≡ None → overdraws ≡ false → pooled_refusal r member pools ranks slip ≡ None
-  unrefused e o = in_turn ∙ ap (λ (x : Option Refusal). option_or x (check overdraws (Some Refusal.Overdrawn) None)) e ∙ sym (check-false _ _ _ o refl)
-
-  pub admitted : early ≡ None → PoolsAdmitted r.status member pools ranks (length slip)
-  admitted e = pools_admitted r.status member pools ranks (length slip) None e
+  admitted e = pools_admitted r.status member pools ranks (length slip) e
 
   placeless : Placeless (pooled_refusal r member pools ranks slip)
   unfolding pooled_refusal
@@ -74,8 +52,7 @@ module _ (r : Register) (member : ℕ) (pools : Pools) (ranks slip : List ℕ) w
       (placeless_check _ _ _ refl
       (placeless_check _ _ _ refl
       (placeless_check _ _ _ refl
-      (placeless_check _ _ _ refl
-      (placeless_check _ _ _ refl (tt {0})))))))
+      (placeless_check _ _ _ refl (tt {0}))))))
 
   pub says_pooled : {reply : Reply} → reply ≡ (pooled_of r member pools ranks slip).reply
       → Says reply (pooled_refusal r member pools ranks slip) (pooled_allocation r member pools ranks)
@@ -114,7 +91,7 @@ module _ (r : Register) (member : ℕ) (pools : Pools) (ranks slip : List ℕ) w
 
 -- the layers ----------------------------------------------------------------------------
 
-module _ (r : Register) (g : GivenBack r) (member : ℕ) (pools : Pools) (ranks slip : List ℕ) (early-none : early r member pools ranks slip ≡ None) where
+module _ (r : Register) (g : GivenBack r) (member : ℕ) (pools : Pools) (ranks slip : List ℕ) (passed : pooled_refusal r member pools ranks slip ≡ None) where
   abbrev loss : ℕ
   loss = loss_together pools
 
@@ -128,7 +105,7 @@ module _ (r : Register) (g : GivenBack r) (member : ℕ) (pools : Pools) (ranks 
   marked = replace r.status member Status.InDefault
 
   abbrev can : PoolsAdmitted r.status member pools ranks (length slip)
-  can = admitted r member pools ranks slip early-none
+  can = admitted r member pools ranks slip passed
 
   -- the defaulter has a place
   placed_at : (0 < member) × (member ≤ member_limit)
@@ -207,10 +184,6 @@ module _ (r : Register) (g : GivenBack r) (member : ℕ) (pools : Pools) (ranks 
           layer5_is.1,
         )
 
-    pub over_is : x.over ≡ overdrawn r member loss charged
-    unfolding rooms_of
-    over_is = d.over_is ∙ rw (d.over4_is, layer4_is, d.layer6.over_is, called_is)
-
     settled_is : settled_as r member x ≡ settled_of r member loss charged
     unfolding settled_of
     settled_is = rw (layer1_is.0, layer2_is.0, layer3_is.0, layer5_is.0, layer4_is, called_is)
@@ -237,14 +210,14 @@ module _ (r : Register) (g : GivenBack r) (member : ℕ) (pools : Pools) (ranks 
           charges_within = rw layer4_is (set_all (λ k x. get_or charged k 0 ≤ x) r.contribution at _ (charges-within r member loss charged layer4)
               (omega (arith, uncharged)));
           called_within = rw called_is (λ k. omega (arith, calls-within r member loss charged k, rooms-within r member k, g.called_fits k, g.cap_fits k));
-          calls_are = whole_shared _ _ _ _ _ _ d.layer6;
+          calls_are = whole_shared _ _ _ _ _ d.layer6;
           given_back = rw settled_is (given-settled r g member loss charged);
         }
 
-    pub placed_as : x.over ≡ false → PlacedAs r member pools ranks slip x
-    placed_as o =
+    pub placed_as : PlacedAs r member pools ranks slip x
+    placed_as =
         record {
-          unrefused = unrefused r member pools ranks slip early-none (sym over_is ∙ o);
+          unrefused = passed;
           settles = settles;
           allocation_is = allocation_is;
           settled_is = settled_is;

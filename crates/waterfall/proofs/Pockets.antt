@@ -1,24 +1,18 @@
 -- No share of a default passes what it is drawn from, by two laws of the split: no share passes the sum (`split-le`), and with a sum of at most the
 -- weights none passes its weight (`split-within`, which the laws cited here rest on).
 use Prim.Native.Nat.{ℕ}
-use mathlib.Core.Path.{◌≡◌, refl, ap, sym}
-use mathlib.Core.Bool.{false}
 use mathlib.Core.List.{List}
 use native.Mathlib.Omega.{arith}
-use lib.ListN.{length, get_or}
-use Rattle.std.specs.Prelude.{None}
-use Rattle.lists.proofs.Checks.{check-false}
-use Rattle.lists.proofs.Sums.{keep-le}
-use Rattle.split.proofs.Laws.{exceeds-none, split-le}
-use Rattle.figures.specs.Figures.{others}
-use Rattle.admission.specs.Admission.{pool_ranks, pools_admission}
+use lib.ListN.{get_or}
+use Rattle.split.proofs.Laws.{split-le}
+use Rattle.admission.specs.Admission.{pool_ranks}
 use Rattle.admission.specs.declared.Pools.{Pools}
 use Rattle.ranks.proofs.Laws.{charge-within}
 use Rattle.pools.specs.Pools.{portions_of, charges_in}
 use Rattle.pools.proofs.Laws.{get_or-portions, tied-within, by-pools-within}
-use Rattle.waterfall.specs.Default.{standing_of, rooms_of, calls, overdrawn}
+use Rattle.waterfall.specs.Default.{standing_of}
 use Rattle.waterfall.specs.Pockets.{WithinPockets}
-use Rattle.waterfall.specs.Pools.{loss_together, pool_sums, pool_portions, pool_charges, pooled_charges, pooled_refusal}
+use Rattle.waterfall.specs.Pools.{loss_together, pool_sums, pool_portions, pool_charges, pooled_charges}
 use Rattle.waterfall.specs.Register.{Register, GivenBack}
 use Rattle.waterfall.proofs.Default.{rooms-within, calls-within}
 
@@ -41,16 +35,3 @@ module _ (r : Register) (g : GivenBack r) (member : ℕ) (pools : Pools) (ranks 
         capped = λ k.
             omega (arith, calls-within r member (loss_together pools) (pooled_charges r member pools ranks) k, rooms-within r member k, g.called_fits k);
       }
-
-  -- so 19 comes for none: what refuses a default is 11 to 15, 21 or 22
-  pub never_overdrawn : overdrawn r member (loss_together pools) (pooled_charges r member pools ranks) ≡ false
-  never_overdrawn =
-      rw (
-        exceeds-none (pooled_charges r member pools ranks) r.contribution
-            (λ k. omega (arith, no_share_above.charged k, keep-le (others r.status member) r.contribution k)),
-        exceeds-none (calls r member (loss_together pools) (pooled_charges r member pools ranks)) (rooms_of r member) no_share_above.called,
-      )
-
-  pub refused_by-others : (slip : List ℕ) → pooled_refusal r member pools ranks slip ≡ pools_admission r.status member pools ranks (length slip) None
-  unfolding pooled_refusal
-  refused_by-others slip = ap (pools_admission r.status member pools ranks (length slip)) (sym (check-false _ _ _ never_overdrawn refl))

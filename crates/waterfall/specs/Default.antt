@@ -1,12 +1,12 @@
 -- Document 01, "Declaring a default": what a default of a member does, layer by layer. Layer 4's charges are those of one pool here, by rank over
 -- standing contributions; those of several pools (document 02, request 3), and the default that the calls make, are in Pools.antt. The other layers
 -- are the same.
-use Rattle.std.specs.Prelude.{ℕ, ◌+◌, ◌-◌, Bool, ◌||◌, List, ◌++◌, length, drop, Option, Some, None, is_some}
+use Rattle.std.specs.Prelude.{ℕ, ◌+◌, ◌-◌, List, ◌++◌, length, drop, Option, Some, is_some}
 use Rattle.lists.specs.Checks.{check}
 use Rattle.lists.specs.Limits.{member_limit}
 use Rattle.lists.specs.Sums.{total, plus, minus, keep}
 use Rattle.refusal.specs.declared.Refusal.{Refusal}
-use Rattle.split.specs.Split.{split_of, exceeds}
+use Rattle.split.specs.Split.{split_of}
 use Rattle.ranks.specs.Ranks.{charges_of}
 use Rattle.figures.specs.Figures.{figure, replace, others}
 use Rattle.figures.specs.declared.Status.{Status}
@@ -108,10 +108,6 @@ module _ (r : Register) (member loss : ℕ) where
     unfoldable pub settled_of : Register
     settled_of = settled_by r member on_margin on_contribution on_tranche1 on_tranche2 charged calls
 
--- 19. "A share comes out above the pocket, or in layer 6 the rest of the cap, it is drawn from."
-abbrev pub overdrawn : Register → ℕ → ℕ → List ℕ → Bool
-overdrawn r member loss charged = exceeds charged r.contribution || exceeds (calls r member loss charged) (rooms_of r member)
-
 -- "The slip's first 64 numbers receive each member's layer 4 charge, the next 64 its call, zero where none; further numbers stay."
 abbrev pub slip_of : Register → ℕ → ℕ → List ℕ → List ℕ → List ℕ
 slip_of r member loss charged slip = charged ++ calls r member loss charged ++ drop (member_limit + member_limit) slip
@@ -122,12 +118,9 @@ slip_of r member loss charged slip = charged ++ calls r member loss charged ++ d
 unfoldable pub charges : Register → ℕ → ℕ → List ℕ → List ℕ
 charges r member loss ranks = charges_of (after3 r member loss) (standing_of r member) ranks
 
--- 11 to 15, then 19
+-- 11 to 15
 unfoldable pub default_refusal : Register → ℕ → ℕ → List ℕ → List ℕ → Option Refusal
-default_refusal r member loss ranks slip =
-    admission r.status member loss ranks (length slip)
-    (check (overdrawn r member loss (charges r member loss ranks)) (Some Refusal.Overdrawn)
-    None)
+default_refusal r member loss ranks slip = admission r.status member loss ranks (length slip)
 
 unfoldable pub default_of : Register → ℕ → ℕ → List ℕ → List ℕ → Outcome
 default_of r member loss ranks slip =

@@ -1,6 +1,6 @@
 -- Document 02, request 3, "Several auction pools in one default": the default that the calls make. Layers 1 to 3, 5 and 6 are those of Default.antt, the
 -- losses of the pools being one loss together; layer 4 is charged pool by pool.
-use Rattle.std.specs.Prelude.{ℕ, ◌+◌, ◌≡◌, List, length, Option, Some, None, is_some}
+use Rattle.std.specs.Prelude.{ℕ, ◌+◌, ◌≡◌, List, length, Option, Some, is_some}
 use Rattle.lists.specs.Checks.{check}
 use Rattle.lists.specs.Sums.{total}
 use Rattle.refusal.specs.declared.Refusal.{Refusal}
@@ -8,7 +8,7 @@ use Rattle.admission.specs.Admission.{loss_of, losses_of, pools_admission}
 use Rattle.admission.specs.declared.Pools.{Pools}
 use Rattle.pools.specs.Pools.{sums_of, portions_of, charges_in, charges_by_pools}
 use Rattle.waterfall.specs.Default.{fallen_call, standing_of, on_margin, on_contribution, on_tranche1, allocation_of, settled_of}
-use Rattle.waterfall.specs.Default.{overdrawn, slip_of, default_of, default_slip}
+use Rattle.waterfall.specs.Default.{slip_of, default_of, default_slip}
 use Rattle.waterfall.specs.Register.{Register}
 use Rattle.waterfall.specs.Reply.{judged}
 use Rattle.layers.specs.declared.Allocation.{Allocation}
@@ -43,12 +43,9 @@ module _ (r : Register) (member : ℕ) (pools : Pools) where
     unfoldable pub pooled_allocation : Allocation
     pooled_allocation = allocation_of r member (loss_together pools) pooled_charges
 
-    -- 11, 12, 21, 13, 22, 14, 15, then 19
+    -- 11, 12, 21, 13, 22, 14, 15
     unfoldable pub pooled_refusal : List ℕ → Option Refusal
-    pooled_refusal slip =
-        pools_admission r.status member pools ranks (length slip)
-        (check (overdrawn r member (loss_together pools) pooled_charges) (Some Refusal.Overdrawn)
-        None)
+    pooled_refusal slip = pools_admission r.status member pools ranks (length slip)
 
     unfoldable pub pooled_of : List ℕ → Outcome
     pooled_of slip = judged (pooled_refusal slip) r (Some pooled_allocation) (settled_of r member (loss_together pools) pooled_charges)

@@ -8,7 +8,6 @@ use crate::{Outcome, Register, Reply};
 use admission::{Pools, default_admission};
 use figures::{add_to, defaulted, lower, take_from};
 use layers::{Placed, allocate, tell};
-use refusal::Refusal;
 
 impl Register {
     // "Each charge leaves its pocket", and the defaulter is in default for good.
@@ -28,8 +27,8 @@ impl Register {
         add_to(&mut self.called, &placed.called, gives.calls);
     }
 
-    // The six layers change nothing yet: 19 may still refuse the default. Not inlined where the calls of a drill are applied: the others would bear the room
-    // that a default needs.
+    // Nothing is changed until all six layers are placed: each is placed by the register as it was. Not inlined where the calls of a drill are applied: the
+    // others would bear the room that a default needs.
     #[inline(never)]
     fn place(&mut self, member: u64, pools: Pools, ranks: &[u8], slip: &mut [u64]) -> Reply
         ensures answer { result ≡ (pooled_of self.old member pools ranks.now slip.old).reply }
@@ -38,9 +37,6 @@ impl Register {
     {
         default_admission(self.status, member, pools, ranks, slip.len())?;
         let placed = allocate(self.figures(), member, pools, ranks);
-        if placed.over {
-            return Err(Refusal::Overdrawn);
-        }
         self.settle(member, &placed);
         tell(&placed, slip);
         Ok(Some(placed.allocation))

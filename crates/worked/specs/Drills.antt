@@ -1,7 +1,7 @@
 -- Document 01, "Drill examples": the register of four members with G = 22,000 and its three defaults, marked *.
 use Rattle.std.specs.Prelude.{ℕ, ◌/◌, ◌%◌, ◌≡◌, refl, Some, Ok, List, [], ◌∷◌, ◌++◌, take, drop, replicate}
 use Rattle.lists.specs.Checks.{check}
-use Rattle.split.specs.Split.{share_of, split_of, exceeds}
+use Rattle.split.specs.Split.{share_of, split_of}
 use Rattle.ranks.specs.Ranks.{charges_from, charges_of}
 use Rattle.sheets.specs.Bytes.{le32}
 use Rattle.sheets.specs.Columns.{columns_from, columns_of}
@@ -70,5 +70,5 @@ pub three-defaults : (default1.reply ≡ answers 0 50_000 20_000 13_200 16_800 0
     × (default2.reply ≡ answers 0 0 4_400 0 38_800 8_800 8_000 0)
     × (take 4 (drop 64 (pooled_slip default1.register 3 (one_pool 60_000) (ranked 255 1 255 1) slip)) ≡ 0 ∷ 8_000 ∷ 0 ∷ 0 ∷ [])
     × (default3.reply ≡ answers 8_000 0 0 0 0 0 0 8_000)
-unfolding register default1 default2 default3 opening_refusal member_refusal member_refusal_from member_fault outside missing excessive missized le32 check opening_register columns_of columns_from judged pooled_of pooled_slip pooled_refusal pooled_allocation pooled_charges pool_sums given_before pools_misranked misranked exceeds rooms_of fallen_call to_place on_margin after1 on_contribution after2 on_tranche1 after3 after4 on_tranche2 after5 on_calls calls shortfall allocation_of settled_of losses_after joined_pool sums_of charges_in charges_up_to charges_together unmet still_standing tied charges_by_pools charges_of charges_from split_of share_of
+unfolding register default1 default2 default3 opening_refusal member_refusal member_refusal_from member_fault outside missing excessive missized le32 check opening_register columns_of columns_from judged pooled_of pooled_slip pooled_refusal pooled_allocation pooled_charges pool_sums given_before pools_misranked misranked rooms_of fallen_call to_place on_margin after1 on_contribution after2 on_tranche1 after3 after4 on_tranche2 after5 on_calls calls shortfall allocation_of settled_of losses_after joined_pool sums_of charges_in charges_up_to charges_together unmet still_standing tied charges_by_pools charges_of charges_from split_of share_of
 three-defaults = (refl, refl, refl, refl, refl)

@@ -1,7 +1,7 @@
 -- Document 02, request 3: Annexure 4 of source document 000 in thousands, and further defaults with several pools, each from its register sheet on.
 use Rattle.std.specs.Prelude.{ℕ, ◌≡◌, refl, List, [], ◌∷◌, ◌++◌, take, replicate}
 use Rattle.lists.specs.Checks.{check}
-use Rattle.split.specs.Split.{share_of, split_of, exceeds}
+use Rattle.split.specs.Split.{share_of, split_of}
 use Rattle.ranks.specs.Ranks.{charges_from, charges_of}
 use Rattle.sheets.specs.Bytes.{le32}
 use Rattle.sheets.specs.Columns.{columns_from, columns_of}
@@ -49,7 +49,7 @@ annexure_ranks = pool7 5 6 1 2 4 7 3 ++ pool7 2 5 4 3 7 1 6 ++ pool7 5 3 1 2 4 7
 -- the annex's member totals, 58.70, 195.11, 123.91, 132.07, 489.13, 365.22 and 360.87, but for thousands lost to rounding
 pub annexure_4 : ((pooled_of annexure 1 annexure_losses annexure_ranks slip).reply ≡ answers 0 190_000 10_000 375_000 1_725_000 0 0 0)
     × (take 8 (pooled_slip annexure 1 annexure_losses annexure_ranks slip) ≡ 0 ∷ 58_695 ∷ 195_108 ∷ 123_913 ∷ 132_064 ∷ 489_130 ∷ 365_217 ∷ 360_873 ∷ [])
-unfolding annexure opening_refusal member_refusal member_refusal_from member_fault outside missing excessive missized le32 check opening_register columns_of columns_from judged pooled_of pooled_slip pooled_refusal pooled_allocation pooled_charges pool_sums given_before pools_misranked misranked exceeds rooms_of fallen_call to_place on_margin after1 on_contribution after2 on_tranche1 after3 after4 on_tranche2 after5 on_calls calls shortfall allocation_of settled_of losses_after joined_pool sums_of charges_in charges_up_to charges_together unmet still_standing tied charges_by_pools charges_of charges_from split_of share_of
+unfolding annexure opening_refusal member_refusal member_refusal_from member_fault outside missing excessive missized le32 check opening_register columns_of columns_from judged pooled_of pooled_slip pooled_refusal pooled_allocation pooled_charges pool_sums given_before pools_misranked misranked rooms_of fallen_call to_place on_margin after1 on_contribution after2 on_tranche1 after3 after4 on_tranche2 after5 on_calls calls shortfall allocation_of settled_of losses_after joined_pool sums_of charges_in charges_up_to charges_together unmet still_standing tied charges_by_pools charges_of charges_from split_of share_of
 annexure_4 = (refl, refl)
 
 -- a fallen call: member 2 is called for 25,000 and then fails, three members having put money back -------
@@ -70,7 +70,7 @@ pub fallen-joins : ((pooled_of called 2 (three_pools 0 5_000 3_000) (pool4 255 2
     × (take 4 (pooled_slip called 2 (three_pools 0 5_000 3_000) (pool4 255 2 1 255 ++ pool4 255 1 2 255 ++ pool4 255 2 1 255) slip) ≡ 0 ∷ 0 ∷ 9_347 ∷ 19_653 ∷ [])
     × ((pooled_of called 2 (three_pools 0 0 0) (pool4 255 1 2 255 ++ pool4 255 2 1 255 ++ pool4 255 2 1 255) slip).reply ≡ answers 25_000 0 4_000 0 21_000 0 0 0)
     × (take 4 (pooled_slip called 2 (three_pools 0 0 0) (pool4 255 1 2 255 ++ pool4 255 2 1 255 ++ pool4 255 2 1 255) slip) ≡ 0 ∷ 0 ∷ 999 ∷ 20_001 ∷ [])
-unfolding called replenishment_of replenishment_refusal replenished_of opening_refusal member_refusal member_refusal_from member_fault outside missing excessive missized le32 check opening_register columns_of columns_from judged pooled_of pooled_slip pooled_refusal pooled_allocation pooled_charges pool_sums given_before pools_misranked misranked exceeds rooms_of fallen_call to_place on_margin after1 on_contribution after2 on_tranche1 after3 after4 on_tranche2 after5 on_calls calls shortfall allocation_of settled_of losses_after joined_pool sums_of charges_in charges_up_to charges_together unmet still_standing tied charges_by_pools charges_of charges_from split_of share_of
+unfolding called replenishment_of replenishment_refusal replenished_of opening_refusal member_refusal member_refusal_from member_fault outside missing excessive missized le32 check opening_register columns_of columns_from judged pooled_of pooled_slip pooled_refusal pooled_allocation pooled_charges pool_sums given_before pools_misranked misranked rooms_of fallen_call to_place on_margin after1 on_contribution after2 on_tranche1 after3 after4 on_tranche2 after5 on_calls calls shortfall allocation_of settled_of losses_after joined_pool sums_of charges_in charges_up_to charges_together unmet still_standing tied charges_by_pools charges_of charges_from split_of share_of
 fallen-joins = (refl, refl, refl, refl)
 
 -- odd amounts ---------------------------------------------------------------------------
@@ -84,5 +84,5 @@ pub odd_thousands : ((pooled_of (odd 0) 1 (three_pools 43_349 33_349 33_349) (po
     × (tied (pool_sums (odd 0) 1 (three_pools 43_349 33_349 33_349)) (0 ∷ 10_007 ∷ 20_011 ∷ 30_013 ∷ 40_017 ∷ []) (pool4 1 2 3 4 ++ pool4 4 3 2 1 ++ pool4 1 1 2 2) ≡ 0 ∷ 0 ∷ 1 ∷ 0 ∷ 0 ∷ [])
     × ((pooled_of (odd 1_000) 1 (four_pools 0 40_000 0 35_701) (pool4 1 1 1 1 ++ pool4 4 3 2 1 ++ pool4 24 1 1 1 ++ pool4 1 2 2 1) slip).reply ≡ answers 0 0 10_000 600 65_101 0 0 0)
     × (take 5 (pooled_slip (odd 1_000) 1 (four_pools 0 40_000 0 35_701) (pool4 1 1 1 1 ++ pool4 4 3 2 1 ++ pool4 24 1 1 1 ++ pool4 1 2 2 1) slip) ≡ 0 ∷ 6_172 ∷ 20_011 ∷ 30_013 ∷ 8_905 ∷ [])
-unfolding odd opening_refusal member_refusal member_refusal_from member_fault outside missing excessive missized le32 check opening_register columns_of columns_from judged pooled_of pooled_slip pooled_refusal pooled_allocation pooled_charges pool_sums given_before pools_misranked misranked exceeds rooms_of fallen_call to_place on_margin after1 on_contribution after2 on_tranche1 after3 after4 on_tranche2 after5 on_calls calls shortfall allocation_of settled_of losses_after joined_pool sums_of charges_in charges_up_to charges_together unmet still_standing tied charges_by_pools charges_of charges_from split_of share_of
+unfolding odd opening_refusal member_refusal member_refusal_from member_fault outside missing excessive missized le32 check opening_register columns_of columns_from judged pooled_of pooled_slip pooled_refusal pooled_allocation pooled_charges pool_sums given_before pools_misranked misranked rooms_of fallen_call to_place on_margin after1 on_contribution after2 on_tranche1 after3 after4 on_tranche2 after5 on_calls calls shortfall allocation_of settled_of losses_after joined_pool sums_of charges_in charges_up_to charges_together unmet still_standing tied charges_by_pools charges_of charges_from split_of share_of
 odd_thousands = (refl, refl, refl, refl, refl)

@@ -2,7 +2,7 @@
 -- theorem does not speak, where a larger loss charges less.
 use Rattle.std.specs.Prelude.{ℕ, ◌≡◌, refl, List, [], ◌∷◌, ◌++◌, take, drop, replicate}
 use Rattle.lists.specs.Checks.{check}
-use Rattle.split.specs.Split.{share_of, split_of, exceeds}
+use Rattle.split.specs.Split.{share_of, split_of}
 use Rattle.ranks.specs.Ranks.{charges_from, charges_of}
 use Rattle.sheets.specs.Bytes.{le32}
 use Rattle.sheets.specs.Columns.{columns_from, columns_of}
@@ -41,7 +41,7 @@ pub from_80-to-100 : (answer 80_000 ≡ answers 0 50_000 20_000 10_000 0 0 0 0)
     × (called 100_000 ≡ 0 ∷ 0 ∷ 0 ∷ 0 ∷ [])
     × ((pooled_of register 1 (one_pool 100_000) (ranked 255 1 2 2) used_slip).reply ≡ answer 100_000)
     × (pooled_slip register 1 (one_pool 100_000) (ranked 255 1 2 2) used_slip ≡ pooled_slip register 1 (one_pool 100_000) (ranked 255 1 2 2) slip ++ (7 ∷ 7 ∷ []))
-unfolding register opening_refusal member_refusal member_refusal_from member_fault outside missing excessive missized le32 check opening_register columns_of columns_from judged pooled_of pooled_slip pooled_refusal pooled_allocation pooled_charges pool_sums given_before pools_misranked misranked exceeds rooms_of fallen_call to_place on_margin after1 on_contribution after2 on_tranche1 after3 after4 on_tranche2 after5 on_calls calls shortfall allocation_of settled_of losses_after joined_pool sums_of charges_in charges_up_to charges_together unmet still_standing tied charges_by_pools charges_of charges_from split_of share_of
+unfolding register opening_refusal member_refusal member_refusal_from member_fault outside missing excessive missized le32 check opening_register columns_of columns_from judged pooled_of pooled_slip pooled_refusal pooled_allocation pooled_charges pool_sums given_before pools_misranked misranked rooms_of fallen_call to_place on_margin after1 on_contribution after2 on_tranche1 after3 after4 on_tranche2 after5 on_calls calls shortfall allocation_of settled_of losses_after joined_pool sums_of charges_in charges_up_to charges_together unmet still_standing tied charges_by_pools charges_of charges_from split_of share_of
 from_80-to-100 = (refl, refl, refl, refl, refl, refl, refl)
 
 -- One thousand more in layer 4, in layer 6 and past it: it falls on one member alone, or on nobody.
@@ -54,7 +54,7 @@ pub by_one-thousand : (answer 100_001 ≡ answers 0 50_000 20_000 13_200 16_801 
     × (answer 172_000 ≡ answers 0 50_000 20_000 13_200 60_000 8_800 20_000 0)
     × (answer 172_001 ≡ answers 0 50_000 20_000 13_200 60_000 8_800 20_000 1)
     × (called 172_001 ≡ 0 ∷ 15_000 ∷ 5_000 ∷ 0 ∷ [])
-unfolding register opening_refusal member_refusal member_refusal_from member_fault outside missing excessive missized le32 check opening_register columns_of columns_from judged pooled_of pooled_slip pooled_refusal pooled_allocation pooled_charges pool_sums given_before pools_misranked misranked exceeds rooms_of fallen_call to_place on_margin after1 on_contribution after2 on_tranche1 after3 after4 on_tranche2 after5 on_calls calls shortfall allocation_of settled_of losses_after joined_pool sums_of charges_in charges_up_to charges_together unmet still_standing tied charges_by_pools charges_of charges_from split_of share_of
+unfolding register opening_refusal member_refusal member_refusal_from member_fault outside missing excessive missized le32 check opening_register columns_of columns_from judged pooled_of pooled_slip pooled_refusal pooled_allocation pooled_charges pool_sums given_before pools_misranked misranked rooms_of fallen_call to_place on_margin after1 on_contribution after2 on_tranche1 after3 after4 on_tranche2 after5 on_calls calls shortfall allocation_of settled_of losses_after joined_pool sums_of charges_in charges_up_to charges_together unmet still_standing tied charges_by_pools charges_of charges_from split_of share_of
 by_one-thousand = (refl, refl, refl, refl, refl, refl, refl, refl, refl)
 
 -- two pools, and two registers ---------------------------------------------------------
@@ -82,5 +82,5 @@ pub charged_less : (by_pools 0 110_000 ≡ answers 0 0 10_000 0 100_000 0 0 0)
     × (by_pools 30_000 110_000 ≡ answers 0 0 10_000 0 130_000 0 0 0)
     × (charged_by-pools 30_000 110_000 ≡ 0 ∷ 89_232 ∷ 40_768 ∷ [])
     × ((pooled_of two_others 1 (one_pool 100_000) (ranked 255 1 2 255) slip).reply ≡ answers 0 0 10_000 0 90_000 0 0 0)
-unfolding two_others opening_refusal member_refusal member_refusal_from member_fault outside missing excessive missized le32 check opening_register columns_of columns_from judged pooled_of pooled_slip pooled_refusal pooled_allocation pooled_charges pool_sums given_before pools_misranked misranked exceeds rooms_of fallen_call to_place on_margin after1 on_contribution after2 on_tranche1 after3 after4 on_tranche2 after5 on_calls calls shortfall allocation_of settled_of losses_after joined_pool sums_of charges_in charges_up_to charges_together unmet still_standing tied charges_by_pools charges_of charges_from split_of share_of
+unfolding two_others opening_refusal member_refusal member_refusal_from member_fault outside missing excessive missized le32 check opening_register columns_of columns_from judged pooled_of pooled_slip pooled_refusal pooled_allocation pooled_charges pool_sums given_before pools_misranked misranked rooms_of fallen_call to_place on_margin after1 on_contribution after2 on_tranche1 after3 after4 on_tranche2 after5 on_calls calls shortfall allocation_of settled_of losses_after joined_pool sums_of charges_in charges_up_to charges_together unmet still_standing tied charges_by_pools charges_of charges_from split_of share_of
 charged_less = (refl, refl, refl, refl, refl)

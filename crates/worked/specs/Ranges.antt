@@ -3,7 +3,7 @@
 use Rattle.std.specs.Prelude.{◌≡◌, refl, ℕ, Result, Err, List, [], ◌∷◌, take, drop, replicate}
 use Rattle.lists.specs.Checks.{check}
 use Rattle.refusal.specs.declared.Refusal.{Refusal}
-use Rattle.split.specs.Split.{share_of, split_of, exceeds}
+use Rattle.split.specs.Split.{share_of, split_of}
 use Rattle.ranks.specs.Ranks.{charges_from, charges_of}
 use Rattle.sheets.specs.Bytes.{le32}
 use Rattle.sheets.specs.Columns.{columns_from, columns_of}
@@ -66,7 +66,7 @@ at_one-loss = (refl, refl, refl, refl)
 -- after document 01's first two defaults, member 2 owes 8,000, which fall with any loss of it; nothing is left to meet them
 pub with_a_fallen-call : (lows (range_of default2.register 2 (from_to 0 5) (ranked 255 255 255 1) lent) ≡ answers 8_000 0 0 0 0 0 0 8_000)
     × (highs (range_of default2.register 2 (from_to 0 5) (ranked 255 255 255 1) lent) ≡ answers 8_000 0 0 0 0 0 0 8_005)
-unfolding register default1 default2 opening_refusal member_refusal member_refusal_from member_fault outside missing excessive missized le32 check opening_register columns_of columns_from judged pooled_of pooled_slip pooled_refusal pooled_allocation pooled_charges pool_sums given_before pools_misranked misranked exceeds rooms_of fallen_call to_place on_margin after1 on_contribution after2 on_tranche1 after3 charges after4 on_tranche2 after5 on_calls calls shortfall allocation_of settled_of losses_after joined_pool sums_of charges_in charges_up_to charges_together unmet still_standing tied charges_by_pools charges_of charges_from split_of share_of range_checks range_of range_slip
+unfolding register default1 default2 opening_refusal member_refusal member_refusal_from member_fault outside missing excessive missized le32 check opening_register columns_of columns_from judged pooled_of pooled_slip pooled_refusal pooled_allocation pooled_charges pool_sums given_before pools_misranked misranked rooms_of fallen_call to_place on_margin after1 on_contribution after2 on_tranche1 after3 charges after4 on_tranche2 after5 on_calls calls shortfall allocation_of settled_of losses_after joined_pool sums_of charges_in charges_up_to charges_together unmet still_standing tied charges_by_pools charges_of charges_from split_of share_of range_checks range_of range_slip
 with_a_fallen-call = (refl, refl)
 
 -- 11 and 12 first; "23, low above high, just before 13, which tests the high"; 14; "24, range slip below 256 numbers, in the place of the slip part of
@@ -81,5 +81,5 @@ pub refused : (range_of register 5 (from_to 2 1) (ranked 255 1 2 2) lent ≡ Err
     × (range_of register 1 (from_to 0 1) (ranked 255 0 2 2) lent ≡ Err Refusal.Misranked)
     × (left 2 1 ≡ lent)
     × (range_slip register 1 (from_to 0 1) (ranked 255 0 2 2) lent ≡ lent)
-unfolding register default1 default2 opening_refusal member_refusal member_refusal_from member_fault outside missing excessive missized le32 check opening_register columns_of columns_from judged pooled_of pooled_slip pooled_refusal pooled_allocation pooled_charges pool_sums given_before pools_misranked misranked exceeds rooms_of fallen_call to_place on_margin after1 on_contribution after2 on_tranche1 after3 charges after4 on_tranche2 after5 on_calls calls shortfall allocation_of settled_of losses_after joined_pool sums_of charges_in charges_up_to charges_together unmet still_standing tied charges_by_pools charges_of charges_from split_of share_of range_checks range_of range_slip
+unfolding register default1 default2 opening_refusal member_refusal member_refusal_from member_fault outside missing excessive missized le32 check opening_register columns_of columns_from judged pooled_of pooled_slip pooled_refusal pooled_allocation pooled_charges pool_sums given_before pools_misranked misranked rooms_of fallen_call to_place on_margin after1 on_contribution after2 on_tranche1 after3 charges after4 on_tranche2 after5 on_calls calls shortfall allocation_of settled_of losses_after joined_pool sums_of charges_in charges_up_to charges_together unmet still_standing tied charges_by_pools charges_of charges_from split_of share_of range_checks range_of range_slip
 refused = (refl, refl, refl, refl, refl, refl, refl, refl, refl, refl)

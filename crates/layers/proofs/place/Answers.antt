@@ -50,16 +50,16 @@ sums_of-requires-clause-moderate c =
     let at = (goal.at.sums_of-requires-clause-moderate c).After-layer-third in
     omega (arith, ap total (counted at (omega arith)), (pooled at).sums_fit)
 
-pub charge_by_pools-fourth-requires : goal.charge_by_pools-fourth-requires
-charge_by_pools-fourth-requires c =
-    let at = (goal.at.charge_by_pools-fourth-requires c).After-layer-third in
+pub charge_by_pools-members-requires : goal.charge_by_pools-members-requires
+charge_by_pools-members-requires c =
+    let at = (goal.at.charge_by_pools-members-requires c).After-layer-third in
     rw (c.sums_of.ensures ∙ counted at (omega arith)) (pooled at)
 
 pub overflow_sub-third : goal.overflow_sub-third
 overflow_sub-third c =
     let a = c.args in
     let at = (goal.at.overflow_sub-third c).After-layer-third in
-    let e = c.charge_by_pools-fourth.ensures in
+    let e = c.charge_by_pools-members.ensures in
     omega (
       arith,
       e.total_is,
@@ -73,7 +73,7 @@ pub returns : goal.returns
 returns c =
     let a = c.args in
     let at = (goal.at.returns c).After-layer-third in
-    let e = c.charge_by_pools-fourth.ensures in
+    let e = c.charge_by_pools-members.ensures in
     let s = c.sums_of.ensures ∙ counted at (omega arith) in
     record {
       left1 = c.layer-first.result.left;
@@ -87,9 +87,5 @@ returns c =
       charges_are = e.charges_are ∙ ap (λ (xs : List ℕ). charges_by_pools xs (keep (live_in a.figures.status.now) a.figures.contribution.now) a.ranks.now) s;
       members_are = e.total_is;
       layer5 = (c.layer-fifth.ensures.gives, c.layer-fifth.ensures.leaves);
-      over4 = c.charge_by_pools-fourth.result.over;
-      over6 = c.share_rooms-sixth.result.over;
-      over4_is = e.over_is;
       layer6 = c.share_rooms-sixth.ensures;
-      over_is = refl;
     }

@@ -32,7 +32,6 @@ returns-then-sums-eq1 c =
       charges_are = e.charges_are ∙ alone_so a.sums.now a.status.now a.contribution.now a.ranks.now (omega arith)
           (omega arith) c.requires c.if-sums-eq1.true _ c.total-whole.ensures;
       total_is = e.total_is;
-      over_is = e.over_is;
     }
 
 pub charge_pools-division-requires-clause-poolable : goal.charge_pools-division-requires-clause-poolable
@@ -48,6 +47,6 @@ pub returns : goal.returns
 returns c =
     let a = c.args in
     let at = goal.at.returns c in
-    standing-charges a.sums.now a.status.now a.contribution.now a.ranks.now c.of_live-standing.result c.requires (stands at.After-of_live-standing) _ _ _
+    standing-charges a.sums.now a.status.now a.contribution.now a.ranks.now c.of_live-standing.result c.requires (stands at.After-of_live-standing) _ _
     (by-pools_so a.sums.now a.status.now c.of_live-standing.result a.ranks.now (omega arith) (omega arith)
-    (poolable at.After-of_live-standing) c.charge_pools-division.result c.charge_pools-division.ensures _ c.total-whole.ensures _ _ _ c.tie.ensures)
+    (poolable at.After-of_live-standing) c.charge_pools-division.result c.charge_pools-division.ensures _ c.total-whole.ensures _ _ c.tie.ensures)

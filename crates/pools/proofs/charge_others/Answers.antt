@@ -1,12 +1,9 @@
 -- `pools::charge_others` meets its contract.
-use Prim.Native.Nat.{ℕ}
 use mathlib.Core.Path.{◌≡◌, ap, sym, ◌∙◌}
-use mathlib.Core.List.{List}
 use native.Mathlib.Omega.{arith}
 use lib.ListN.{length}
 use Rattle.lists.specs.Sums.{total, keep}
 use Rattle.lists.proofs.Sums.{length-keep}
-use Rattle.split.specs.Split.{exceeds}
 use Rattle.ranks.specs.Ranks.{charges_of}
 use Rattle.ranks.proofs.Laws.{charges_unread}
 use Rattle.figures.specs.Figures.{live_in}
@@ -41,5 +38,4 @@ returns c =
           ∙ ap (charges_of a.sum a.contribution.now) (read (goal.at.returns c).After-of_live-read)
           ∙ charges_unread marks a.contribution.now a.ranks.now (length-keep marks a.contribution.now n) a.sum;
       total_is = e.total_is ∙ ap total (sym e.charges_after);
-      over_is = e.over_is ∙ ap (λ (xs : List ℕ). exceeds xs a.contribution.now) (sym e.charges_after);
     }

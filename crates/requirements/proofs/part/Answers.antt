@@ -3,4 +3,4 @@ use Rattle.split.proofs.Laws.{split-le}
 use Rattle.requirements.proofs.part.Goals as goal
 
 pub returns-clause-within : goal.returns-clause-within
-returns-clause-within c k = rw c.split.ensures.shares_after (split-le c.args.sum c.wide.result k)
+returns-clause-within c k = rw c.split.ensures (split-le c.args.sum c.wide.result k)

@@ -17,8 +17,8 @@ total-whole-requires c =
     let a = c.args in
     omega (arith, ap total c.rooms_of-rooms.ensures, rooms_fit a.status.now a.most.now a.taken.now c.requires.roomy (omega arith) (omega arith))
 
-pub split-over-requires : goal.split-over-requires
-split-over-requires c =
+pub split-requires : goal.split-requires
+split-requires c =
     let a = c.args in
     splits_as _ _ _ _ _ c.rooms_of-rooms.ensures
     (omega (arith, c.layer-step.ensures.gives, c.requires.moderate))
@@ -29,4 +29,4 @@ split-over-requires c =
 
 pub returns : goal.returns
 returns c =
-    shared_so _ _ _ _ _ _ _ _ c.rooms_of-rooms.ensures c.total-whole.ensures (c.layer-step.ensures.gives, c.layer-step.ensures.leaves) c.split-over.ensures.shares_after (cc)
+    shared_so _ _ _ _ _ _ _ c.rooms_of-rooms.ensures c.total-whole.ensures (c.layer-step.ensures.gives, c.layer-step.ensures.leaves) c.split.ensures

@@ -1,11 +1,9 @@
-use mathlib.Core.Path.{refl}
 use native.Mathlib.Omega.{arith}
 use lib.ListN.{length-set}
 use Rattle.std.proofs.lemmas.List.{at_drop_more}
 use Rattle.lists.specs.Sums.{total}
-use Rattle.lists.proofs.Checks.{any_turn, any_done}
 use Rattle.split.proofs.Laws.{split_turn, share-le_at}
-use Rattle.bench_splits.proofs.Turns.{split_done, exceeds_turn, exceeds-end}
+use Rattle.bench_splits.proofs.Turns.{split_done}
 use Rattle.bench_splits.proofs.old.split.Goals as goal
 
 pub overflow_sub-left : goal.overflow_sub-left
@@ -16,19 +14,15 @@ overflow_sub-left c =
 pub loop-i-preserved : goal.loop-i-preserved
 loop-i-preserved c =
     let l = c.loop-i in
-    let ws = c.args.weights.now in
-    let part = c.share-part.ensures in (
+    let ws = c.args.weights.now in (
       omega arith,
       simp length-set l.invariant.1,
       omega arith,
       omega (arith, at_drop_more total ws l.i 0 (omega arith)),
-      split_turn l.left ws l.shares _ l.i l.rest _ (omega arith) (omega arith) l.invariant.3 part l.invariant.4,
-      any_turn l.over _ _ _ _ _ refl (exceeds_turn l.left ws l.i l.rest _ (omega arith) l.invariant.3 part) l.invariant.5,
+      split_turn l.left ws l.shares _ l.i l.rest _ (omega arith) (omega arith) l.invariant.3 c.share-part.ensures l.invariant.4,
     )
 
 pub returns : goal.returns
 returns c =
-    let l = c.loop-i in record {
-      shares_after = split_done _ _ _ _ l.i (omega arith) (omega arith) l.invariant.4;
-      over_is = any_done _ _ _ (exceeds-end _ _ l.i (omega arith)) l.invariant.5;
-    }
+    let l = c.loop-i in
+    split_done _ _ _ _ l.i (omega arith) (omega arith) l.invariant.4

@@ -1,9 +1,7 @@
 -- `waterfall::Register::place` meets its contract.
 use mathlib.Core.Path.{◌≡◌, refl, sym, ◌∙◌}
-use mathlib.Core.Bool.{false}
 use Rattle.std.specs.Prelude.{Some, None}
 use Rattle.std.proofs.lemmas.Result.{err_from_is_err_and}
-use Rattle.refusal.specs.declared.Refusal.{Refusal}
 use Rattle.figures.specs.Figures.{others}
 use Rattle.admission.specs.Admission.{losses_of}
 use Rattle.rooms.specs.Rooms.{rooms}
@@ -11,21 +9,23 @@ use Rattle.layers.specs.Parts.{GoesDown, estate_of}
 use Rattle.waterfall.specs.Pools.{pooled_refusal}
 use Rattle.waterfall.specs.Inside.{seen}
 use Rattle.waterfall.proofs.Answer.{is_refused, is_passed}
-use Rattle.waterfall.proofs.Placing.{early, refused_early, refused_late, refused, PlacedAs, accepted, allocatable, over_is, placed_as}
+use Rattle.waterfall.proofs.Placing.{refused, PlacedAs, accepted, allocatable, placed_as}
 use Rattle.waterfall.proofs.Register.place.Goals.{In_ok-default_admission, After-allocate-placed}
 use Rattle.waterfall.proofs.Register.place.Goals as goal
 
 pub returns-in_err-default_admission : goal.returns-in_err-default_admission
+unfolding pooled_refusal
 returns-in_err-default_admission c =
     let a = c.args in
     let e = err_from_is_err_and c.from_residual.result c.from_residual.ensures.1 in
     let found : pooled_refusal a.self.now a.member a.pools a.ranks.now a.slip.now ≡ Some e.0 =
-    rw (← c.self.view_is) (refused_early _ _ _ _ _ (is_refused _ (sym c.default_admission.ensures ∙ rw e.2 c.in_err-default_admission.was))) in
+    rw (← c.self.view_is) (is_refused _ (sym c.default_admission.ensures ∙ rw e.2 c.in_err-default_admission.was)) in
     let r = refused a.self.now a.member a.pools a.ranks.now a.slip.now found in
     rw e.1 (record { answer = r.answer; register_after = r.register_after; slip_after = r.slip_after })
 
 module _ (c : In_ok-default_admission) where
-  passed : early (seen c.self.inside) c.args.member c.args.pools c.args.ranks.now c.args.slip.now ≡ None
+  passed : pooled_refusal (seen c.self.inside) c.args.member c.args.pools c.args.ranks.now c.args.slip.now ≡ None
+  unfolding pooled_refusal
   passed = is_passed _ (sym c.default_admission.ensures ∙ c.in_ok-default_admission.was)
 
 pub allocate-placed-requires : goal.allocate-placed-requires
@@ -45,35 +45,22 @@ module _ (c : After-allocate-placed) where
       let t = c.figures.ensures.tranches in
       rw (m.0, m.1, m.2, m.3, m.4, m.5, t.0, t.1, ← c.self.view_is) at c.allocate-placed.ensures
 
-pub returns-then-placed : goal.returns-then-placed
-returns-then-placed c =
-    let a = c.args in
-    let early-none = passed (goal.at.returns-then-placed c).In_ok-default_admission in
-    let down = goes_down (goal.at.returns-then-placed c).After-allocate-placed in
-    let over = over_is (seen c.self.inside) c.self.invariant a.member a.pools a.ranks.now a.slip.now early-none _ down in
-    let found : pooled_refusal a.self.now a.member a.pools a.ranks.now a.slip.now ≡ Some Refusal.Overdrawn =
-    rw (← c.self.view_is) (refused_late (seen c.self.inside) a.member a.pools a.ranks.now a.slip.now early-none (sym over ∙ c.if-placed.true)) in
-    let r = refused a.self.now a.member a.pools a.ranks.now a.slip.now found in
-    record { answer = r.answer; register_after = r.register_after; slip_after = r.slip_after }
-
--- a default that nothing refuses
-module _ (c : After-allocate-placed) (within : c.allocate-placed.result.over ≡ false) where
   placed : PlacedAs c.args.self.now c.args.member c.args.pools c.args.ranks.now c.args.slip.now c.allocate-placed.result
+  unfolding pooled_refusal
   placed =
-      let early-none : early (seen c.self.inside) c.args.member c.args.pools c.args.ranks.now c.args.slip.now ≡ None =
-      is_passed _ (sym c.default_admission.ensures ∙ c.in_ok-default_admission.was) in
       rw (← c.self.view_is)
-      (placed_as (seen c.self.inside) c.self.invariant c.args.member c.args.pools c.args.ranks.now c.args.slip.now early-none _ (goes_down c) within)
+      (placed_as (seen c.self.inside) c.self.invariant c.args.member c.args.pools c.args.ranks.now c.args.slip.now
+      (is_passed _ (sym c.default_admission.ensures ∙ c.in_ok-default_admission.was)) _ goes_down)
 
 pub settle-requires : goal.settle-requires
-settle-requires c = (placed (goal.at.settle-requires c).After-allocate-placed c.if-placed.false).settles
+settle-requires c = (placed (goal.at.settle-requires c).After-allocate-placed).settles
 
 pub tell-requires : goal.tell-requires
-tell-requires c = (placed (goal.at.tell-requires c).After-allocate-placed c.if-placed.false).slip_fits
+tell-requires c = (placed (goal.at.tell-requires c).After-allocate-placed).slip_fits
 
 pub returns : goal.returns
 returns c =
     let a = c.args in
-    let p = placed (goal.at.returns c).After-allocate-placed c.if-placed.false in
+    let p = placed (goal.at.returns c).After-allocate-placed in
     let d = accepted a.self.now a.member a.pools a.ranks.now a.slip.now p refl c.settle.ensures c.tell.ensures in
     record { answer = d.answer; register_after = d.register_after; slip_after = d.slip_after }

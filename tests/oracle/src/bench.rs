@@ -167,11 +167,7 @@ fn repeat_split(case: &str, repetitions: u64) -> u64 {
         };
         let mut split = Split::new(sum, whole);
         let shares = weights.map(|weight| split.share(weight));
-        let above = shares
-            .iter()
-            .zip(&weights)
-            .any(|(share, weight)| share > weight);
-        let shared = [above as u64, shares[ALONE], shares[turn as usize % MEMBERS]];
+        let shared = [shares[ALONE], shares[turn as usize % MEMBERS]];
         shared.into_iter().fold(checksum, fold)
     })
 }

@@ -109,6 +109,7 @@ impl Coverage {
         self.tally.just_sums += tally.just_sums;
         self.tally.alone += tally.alone;
         self.tally.all_called += tally.all_called;
+        add(&mut self.tally.drained, tally.drained);
         self.tally.later_loss += tally.later_loss;
         self.tally.later_rank += tally.later_rank;
         self.tally.ranges.add(tally.ranges);
@@ -153,6 +154,8 @@ impl Coverage {
                 "a default that calls all there is, and is short",
                 t.all_called,
             ),
+            ("a contribution that layer 4 takes whole", t.drained[0]),
+            ("a member called all that its cap leaves", t.drained[1]),
             ("refusal 13 for a later pool", t.later_loss),
             ("refusal 15 for a later pool", t.later_rank),
             ("refusal 21", self.refusals[21]),
@@ -271,7 +274,7 @@ impl Coverage {
 
     pub fn print(&self) {
         println!("refusal  times");
-        for number in 1..=24 {
+        for number in numbers() {
             println!("{number:>7}  {}{}", self.refusals[number], remark(number));
         }
         println!("layer    accepted defaults that drew on it");
@@ -314,6 +317,10 @@ impl Coverage {
         println!(
             "contributions that were just the sums of several pools: {}; ranks that gave a part by one member alone: {}; defaults that called all there was, and were short: {}",
             t.just_sums, t.alone, t.all_called
+        );
+        println!(
+            "members whose contribution layer 4 took whole: {}; that were called all that their cap left: {}",
+            t.drained[0], t.drained[1]
         );
         println!(
             "refused for a later pool alone, 13: {}; 15: {}",
@@ -374,11 +381,15 @@ fn group_at(case: &SizingCase, place: usize) -> Option<u8> {
     case.stress.get(at + 6).copied()
 }
 
+/// The numbers of the refusals there are: one is retired.
+fn numbers() -> impl Iterator<Item = usize> {
+    (1..=18).chain(20..=24)
+}
+
 /// Refusals that no program can be brought to print.
 fn remark(number: usize) -> &'static str {
     match number {
         3 | 14 => "  (the programs always hand whole slips and ranks)",
-        19 => "  (no part split is above its total)",
         20 => "  (the programs always hand a whole page, and no drill's amount is above its limit)",
         24 => "  (run_drill always hands a whole range slip)",
         _ => "",
@@ -417,10 +428,12 @@ mod tests {
             let [low, high] = case.drills().map(|drill| printed(&drill));
             coverage.add_raised(count_raised(&case, [&low, &high]).unwrap());
         }
-        for number in 1..=24 {
+        for number in numbers() {
             let reached = coverage.refusals[number] > 0;
             assert_eq!(reached, remark(number).is_empty(), "refusal {number}");
         }
+        let listed: u64 = numbers().map(|number| coverage.refusals[number]).sum();
+        assert_eq!(listed, coverage.refusals.iter().sum::<u64>());
         assert!(coverage.layers.iter().all(|&times| times > 100));
         assert!(coverage.shortfalls > 100 && coverage.fallen > 100);
         assert!(coverage.all_layers > 100 && coverage.sizings > 100);
@@ -435,6 +448,7 @@ mod tests {
         assert!(coverage.refusals[21] > 100 && coverage.refusals[22] > 20);
         assert!(tally.later_loss > 10 && tally.later_rank > 50);
         assert!(tally.just_sums > 10 && tally.alone > 100 && tally.all_called > 100);
+        assert!(tally.drained.iter().all(|&times| times > 100));
         assert_eq!(coverage.unreached_groups(), [""; 0]);
         assert!(coverage.groups.raised > 100 && coverage.groups.beyond_two > 5);
         assert_eq!(coverage.unreached_raised(), [""; 0]);
@@ -449,7 +463,7 @@ mod tests {
     #[test]
     fn what_a_run_did_not_reach() {
         let mut coverage = Coverage::default();
-        assert_eq!(coverage.unreached().len(), 16);
+        assert_eq!(coverage.unreached().len(), 18);
         assert_eq!(coverage.unreached_groups().len(), 5);
         assert_eq!(coverage.unreached_raised().len(), 14);
         assert_eq!(coverage.unreached_ranges().len(), 28);
@@ -461,6 +475,7 @@ mod tests {
             just_sums: 1,
             alone: 1,
             all_called: 1,
+            drained: [1; 2],
             later_loss: 1,
             later_rank: 1,
             ..Tally::default()

@@ -51,6 +51,9 @@ pub struct Tally {
     pub alone: u64,
     /// Accepted defaults that call all that the caps leave, and are still short.
     pub all_called: u64,
+    /// Members that gave all of their contribution in layer 4, and that were called all that their
+    /// cap left.
+    pub drained: [u64; 2],
     /// Defaults refused with 13 for a later pool alone.
     pub later_loss: u64,
     /// Defaults refused with 15 for a later pool alone.
@@ -435,7 +438,7 @@ impl Ledger {
         }
     }
 
-    /// The printed slip: layer 4 charges and calls of live members, within their caps.
+    /// The printed slip: layer 4 charges and calls of live members, within contributions and caps.
     fn slip(&mut self, layers: &[Sum; 6], printed: &mut Printed) -> Counted<ByMember> {
         let (mut charges, mut calls) = (0, 0);
         let mut charged = ByMember::new();
@@ -445,10 +448,14 @@ impl Ledger {
             account.contribution_charged += charge;
             account.calls += call;
             account.calls_since_close += call;
+            let standing = account.standing();
+            let standing = standing.map_err(|why| format!("contribution of {member}: {why}"))?;
             let (called, cap) = (account.calls_since_close, account.cap);
             ensure(called <= cap, || {
                 format!("member {member} is called {called} over its cap {cap}")
             })?;
+            let drained = [charge > 0 && standing == 0, call > 0 && called == cap];
+            add(&mut self.tally.drained, drained.map(u64::from));
             charges += charge;
             calls += call;
             *charged.entry(member).or_default() += charge;
@@ -790,6 +797,40 @@ mod tests {
             why.contains("charged 334, and 333 by pools and tie"),
             "{why}"
         );
+    }
+
+    /// A share above what it is drawn from, though layer and slip agree: member 2 has a
+    /// contribution of 30,000, and its cap is 15,000.
+    #[test]
+    fn a_share_above_its_pocket_is_seen() {
+        let case = DrillCase {
+            calls: "default 1 172000 2:1 3:1 4:1\nregister\n".into(),
+            ..example()
+        };
+        let good = printed(&case);
+        let tally = count(&case, &good).unwrap();
+        assert_eq!(tally.drained, [3, 2]);
+        let with = |changes: [(&str, &str); 2]| {
+            let mut changed = good.clone();
+            for (from, to) in changes {
+                assert!(changed.contains(from), "{changed}");
+                changed = changed.replace(from, to);
+            }
+            count(&case, &changed).err().unwrap_or_default()
+        };
+        let charged = [
+            (" 60000 8800 20000 short 0", " 60001 8799 20000 short 0"),
+            ("member 2 charged 30000 ", "member 2 charged 30001 "),
+        ];
+        assert!(with(charged).contains("contribution of 2: 30001 were taken of 30000"));
+        let called = [
+            (" 8800 20000 short 0", " 8799 20001 short 0"),
+            (
+                "member 2 charged 30000 called 15000",
+                "member 2 charged 30000 called 15001",
+            ),
+        ];
+        assert!(with(called).contains("member 2 is called 15001 over its cap 15000"));
     }
 
     #[test]

@@ -49,8 +49,6 @@ pub fn split_ranks<const POOLS: usize>(ranks: &[u8]) -> Option<&[[u8; MEMBERS]; 
 
 impl Register {
     /// Declares a default of 1 to 4 pools, with 64 ranks for each; refusals leave register and slip untouched.
-    ///
-    /// Refusal 19 cannot arise: the part split is never above the total of its weights.
     pub fn default(
         &mut self,
         member: u64,

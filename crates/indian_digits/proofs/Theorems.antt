@@ -56,4 +56,4 @@ commas-length (d ∷ ds) =
 -- "right-aligned in 20": every amount that is printed fits
 pub amount_fits : (n : ℕ) → n ≤ printed_limit → length (indian_of n) ≤ 20
 unfolding indian_of
-amount_fits n h = omega (arith, commas-length (decimal_of n), decimal-few 10 n (omega arith) (omega arith))
+amount_fits n h = omega (arith, commas-length (decimal_of n), decimal-few 10 n (omega arith))

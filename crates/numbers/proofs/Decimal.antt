@@ -5,7 +5,7 @@ use mathlib.Core.Bool.{Bool, true, false, ◌&&◌}
 use mathlib.Core.List.{List, [], ◌∷◌, ◌++◌}
 use native.Mathlib.Omega.{arith}
 use native.Mathlib.Nat.{div-lt_iff_lt-mul, pow-suc}
-use borrow.Author.Tests.{lt-ltb, ltb-true, le-leb}
+use borrow.Author.Tests.{lt-ltb, ltb-true, ltb-false, le-leb}
 use lib.Dec.{ltb, lit<}
 use lib.ListN.{length, length-append}
 use Rattle.std.specs.Prelude.{Some}
@@ -28,6 +28,18 @@ digits-length (suc f) n =
     check_by (λ (s : List ℕ). length s ≤ suc f) (ltb n 10) _ _
     (λ e. omega arith)
     (λ e. simp length-append (omega (arith, digits-length f (n / 10))))
+
+-- a number below 10 ^ (k + 1) has at most k + 1 digits
+few-digits : (k f n : ℕ) → n < 10 ^ suc k → length (digits_of f n) ≤ suc k
+few-digits k zero n h = omega arith
+few-digits zero (suc f) n h =
+    check_by (λ (s : List ℕ). length s ≤ 1) (ltb n 10) _ _
+    (λ e. omega arith)
+    (λ e. absurd (omega (arith, ltb-false n 10 e)))
+few-digits (suc k) (suc f) n h =
+    check_by (λ (s : List ℕ). length s ≤ suc (suc k)) (ltb n 10) _ _
+    (λ e. omega arith)
+    (λ e. simp length-append (omega (arith, few-digits k f (n / 10) (tenth (suc k) n h))))
 
 -- the value of digits behind others
 value-append : (v : ℕ) (s t : List ℕ) → value_from v (s ++ t) ≡ value_from (value_from v s) t
@@ -84,8 +96,9 @@ pub decimal-length : (n : ℕ) → length (decimal_of n) ≤ 20
 unfolding decimal_of
 decimal-length n = digits-length 20 n
 
-pub decimal-few : (k n : ℕ) → n < 10 ^ suc k → n < 2 ^ 64 → length (decimal_of n) ≤ suc k
-decimal-few k n h f = rw (← decimal_printed n f) (length-decimal-le (suc k) n (omega arith) h f)
+pub decimal-few : (k n : ℕ) → n < 10 ^ suc k → length (decimal_of n) ≤ suc k
+unfolding decimal_of
+decimal-few k n h = few-digits k 20 n h
 
 pub decimal_all : (n : ℕ) → all_digits (decimal_of n) ≡ true
 unfolding decimal_of

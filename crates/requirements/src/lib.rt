@@ -26,7 +26,7 @@ struct ByColumn<T> {
 }
 
 // The columns of a shares sheet, with what they add to.
-#[derive(Drop)]
+#[derive(Clone, Copy)]
 pub struct SharesSheet {
     columns: Columns,
     totals: ByColumn<u64>,
@@ -34,13 +34,21 @@ pub struct SharesSheet {
 
 impl Model for SharesSheet {
     ghost use Rattle.sheets.specs.declared.columns.Columns.{Columns};
-    ghost use Rattle.requirements.specs.Parts.{Totalled};
+    ghost use Rattle.std.proofs.Common.{sym};
+    ghost use Rattle.requirements.specs.Parts.{Totalled, totals_of};
 
     ghost Value = { Columns };
 
     ghost view = { λ s. s.columns };
 
+    ghost inverse = { λ columns. record { columns = columns; totals = totals_of columns } };
+
     ghost invariant = { λ s. Totalled s.columns s.totals };
+
+    ghost inverse_ok = { λ s added i. record {
+      columns = s.columns;
+      totals = record { volume = sym added.volumes_add i; margin = sym added.margins_add i; stress = sym added.stresses_add i };
+    } };
 }
 
 // A quantum shared: the requirements by member number, and the highest of them.

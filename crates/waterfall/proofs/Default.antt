@@ -10,7 +10,7 @@ use lib.Seq.{take_at, drop_at}
 use Rattle.lists.specs.Limits.{member_limit}
 use Rattle.lists.specs.Sums.{total, minus}
 use Rattle.lists.proofs.Sums.{get_or-minus, keep-le}
-use Rattle.split.proofs.Laws.{split-within, split_whole}
+use Rattle.split.proofs.Laws.{split-within, split_whole, total_within}
 use Rattle.figures.specs.Figures.{is_live, figure, replace, others}
 use Rattle.figures.specs.declared.Status.{Status}
 use Rattle.figures.proofs.Figures.{live_at}
@@ -41,10 +41,14 @@ pub charges-within : (r : Register) (member loss : ℕ) (charged : List ℕ) →
 charges-within r member loss charged f k = omega (arith, f.weighed k, keep-le (others r.status member) r.contribution k)
 
 module _ (r : Register) (member loss : ℕ) (charged : List ℕ) where
-  -- a call is at most the rest of its cap
+  -- a call is at most the rest of its cap, and the calls are layer 6 together
   pub calls-within : (k : ℕ) → get_or (calls r member loss charged) k 0 ≤ get_or (rooms_of r member) k 0
   unfolding calls on_calls
   calls-within k = split-within (on_calls r member loss charged) (rooms_of r member) (omega arith) k
+
+  pub calls-total : total (calls r member loss charged) ≡ on_calls r member loss charged
+  unfolding calls on_calls
+  calls-total = total_within (on_calls r member loss charged) (rooms_of r member) (omega arith)
 
   -- what each layer gives and what is left after it are what was left before it
   pub left1 : on_margin r member loss + after1 r member loss ≡ to_place r member loss

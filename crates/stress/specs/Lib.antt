@@ -2,3 +2,4 @@
 pub mod Figures
 pub mod Stress
 pub mod Parts
+pub mod Preceding

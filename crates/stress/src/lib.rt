@@ -27,6 +27,19 @@ impl Model for Before {
     ghost invariant = { λ b. BlockWithin b.day b.scenario b.flags };
 }
 
+/// What stands before a record of a stress sheet, in numbers of a caller's own: `Before` without its limits. No record need be of these numbers.
+#[derive(Clone, Copy)]
+pub struct Preceding {
+    /// The day of the record before.
+    pub day: u64,
+    /// Its scenario.
+    pub scenario: u64,
+    /// Its member.
+    pub member: u64,
+    /// The weak flags of its block so far, its own included.
+    pub flags: u64,
+}
+
 // A record in order: its loss, whether it is flagged as weak, its group (0 for a member alone), and what stands before the next record.
 #[derive(Clone, Copy)]
 pub struct Loss {

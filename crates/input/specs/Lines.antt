@@ -13,6 +13,10 @@ or_last ended bytes None = cond (not (length bytes == 0) && ended) (Some (length
 abbrev pub length_of : Bool → List ℕ → Option ℕ
 length_of ended bytes = or_last ended bytes (position (λ b. b == 10) bytes)
 
+-- the first n of the bytes are searched, and hold no newline
+abbrev pub Searched : ℕ → List ℕ → Type 0
+Searched n bytes = (n ≤ length bytes) × (position (λ b. b == 10) (take n bytes) ≡ None)
+
 -- what is left of the bytes behind the line and its newline
 abbrev pub left_of : Option ℕ → List ℕ → List ℕ
 left_of None bytes = bytes

@@ -1,14 +1,14 @@
 // The lines of standard input, taken one by one.
 #![tactic(auto)]
 
-ghost use Rattle.std.specs.Prelude.{◌≡◌, ◌==◌, ◌+◌, ◌-◌, ◌<◌, ◌≤◌, [], false, min, length, take, drop};
+ghost use Rattle.std.specs.Prelude.{◌≡◌, ◌==◌, ◌+◌, ◌-◌, ◌<◌, ◌≤◌, [], false, Option, None, min, length, take, drop};
 ghost use Rattle.std.specs.Result.{IfOk};
 ghost use Rattle.std.specs.Io.{StartsWith};
 ghost use Rattle.std.specs.Io.BufRead.{Rests};
 ghost use Rattle.std.specs.Borrow.{sem};
 ghost use Rattle.std.specs.List.{position};
 ghost use Rattle.words.specs.Bytes.{part as Bytes·part};
-ghost use Rattle.input.specs.Lines.{length_of, IsNext};
+ghost use Rattle.input.specs.Lines.{length_of, IsNext, Searched};
 ghost use Rattle.input.specs.Reading.{has_ended, kept_of, IsBehind};
 ghost use Rattle.std.specs.Option.{IfSome};
 
@@ -38,25 +38,48 @@ impl State {
     }
 }
 
-// How long the line is that begins at `from`, where its end is read. A last line may have no newline. (Bytes, from and have in no struct: `Lines` has
-// them among its fields.)
-fn line_length(bytes: &[u8], from: usize, have: usize, ended: bool) -> Option<usize>
-    requires { (from ≤ have) × (have ≤ length bytes.now) }
+// The place of the first newline. The first `searched` bytes hold none, and are not looked at again.
+fn find_newline(bytes: &[u8], searched: usize) -> Option<usize>
+    requires { Searched searched bytes.now }
+    ensures value { result ≡ position (λ b. b == 10) bytes.now }
+    ensures within { IfSome result (λ place. place < length bytes.now) }
+{
+    let rest = part(bytes, searched, bytes.len());
+    let place = find(rest, b'\n')?;
+    Some(searched + place)
+}
+
+// How long the line is that begins at `from`, where its end is read. A last line may have no newline. (Bytes, from, searched and have in no struct: `Lines`
+// has them among its fields.)
+#[tactic(auto, using(crate::proofs::Taking::all_searched))]
+fn line_length(
+    bytes: &[u8],
+    from: usize,
+    searched: usize,
+    have: usize,
+    ended: bool,
+) -> Option<usize>
+    requires range { (from ≤ have) × (have ≤ length bytes.now) }
+    requires searched { Searched searched (Bytes·part bytes.now from have) }
     ensures value { result ≡ length_of ended (Bytes·part bytes.now from have) }
     ensures within { IfSome result (λ n. from + n ≤ have) }
+    ensures all_searched { result ≡ None → Searched (have - from) (Bytes·part bytes.now from have) }
 {
     let bytes = part(bytes, from, have);
-    match find(bytes, b'\n') {
+    match find_newline(bytes, searched) {
         None if ended && !bytes.is_empty() => Some(bytes.len()),
         found => found,
     }
 }
 
-// Moves the `count` bytes that begin at `from` to the front.
+// Moves the `count` bytes that begin at `from` to the front, where they are not there already.
 fn close_up(bytes: &mut [u8], from: usize, count: usize)
     requires { from + count ≤ length bytes.old }
     ensures { take count bytes.new ≡ take count (drop from bytes.old) }
 {
+    if from == 0 {
+        return;
+    }
     bytes.copy_within(from..from + count, 0);
 }
 
@@ -91,11 +114,13 @@ fn part_at(bytes: &[u8], from: usize, count: usize) -> &[u8]
 
 /// The lines of an input: the bytes from `from` to `have` are read and still to be taken, and begin a line. (std's `lines` asks for memory; and no
 /// Iterator, since what `next` gives borrows from the lines.)
-// (Two places, since a struct cannot hold a slice of its own bytes.)
+// (Two places, since a struct cannot hold a slice of its own bytes. The first `searched` of these bytes hold no newline: a line may come in small pieces,
+// and none of its bytes is searched twice.)
 #[derive(Drop)]
 pub struct Lines {
     bytes: [u8; ROOM],
     from: usize,
+    searched: usize,
     have: usize,
     number: u64,
     state: State,
@@ -111,7 +136,11 @@ impl Model for Lines {
 
     ghost view = { reading_of };
 
-    ghost invariant = { λ lines. (lines.from ≤ lines.have) × (lines.have ≤ 65536) };
+    ghost use Rattle.words.specs.Bytes.{part as Bytes·part};
+    ghost use Rattle.input.specs.Lines.{Searched};
+
+    ghost invariant = { λ lines. (lines.from ≤ lines.have) × (lines.have ≤ 65536)
+        × Searched lines.searched (Bytes·part lines.bytes lines.from lines.have) };
 }
 
 impl Lines {
@@ -125,6 +154,7 @@ impl Lines {
         Lines {
             bytes: [0; ROOM],
             from: 0,
+            searched: 0,
             have: 0,
             number: 1,
             state: State::Open,
@@ -152,8 +182,13 @@ impl Lines {
         ensures* leaves { sem 𝓛 (Rests the_row self.entry (λ new. IsBehind (length_of (has_ended self.old.state) self.old.rest) self.old new)) }
     {
         let from = self.from;
-        let length = line_length(&self.bytes, from, self.have, self.state.has_ended())?;
+        let ended = self.state.has_ended();
+        let Some(length) = line_length(&self.bytes, from, self.searched, self.have, ended) else {
+            self.searched = self.have - from;
+            return None;
+        };
         self.from = self.have.min(self.from + length + 1);
+        self.searched = 0;
         self.number = self.number.saturating_add(1);
         if LINE_LIMIT < length {
             return Some(Err(Unreadable));
@@ -170,6 +205,7 @@ impl Lines {
     {
         let kept = keep(&mut self.bytes, self.from, self.have);
         self.from = 0;
+        self.searched = self.searched.min(kept);
         self.have = kept;
         match read_behind(&mut rt.reader(), &mut self.bytes, kept) {
             Ok(0) => self.state = State::Ended,

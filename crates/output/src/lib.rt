@@ -31,8 +31,7 @@ pub fn tell(rt: &impl Eprint, written: io::Result<()>) -> bool
 
 /// Writes the text where there is no room behind it for so many bytes.
 pub fn make_room<const N: usize>(rt: &impl Print, text: &mut Text<N>, room: usize) -> io::Result<()>
-    requires { room ≤ N }
-    ensures { length text.new + room ≤ N }
+    ensures { room ≤ N → length text.new + room ≤ N }
 {
     if N - text.len() < room {
         return write_out(rt, text);

@@ -67,7 +67,7 @@ fn read_pool(words: &mut Words) -> Option<Pool>
 {
     let loss = number(words)?;
     let mut ranks = [MISSING_RANK; 64];
-    let more = read_ranks(words, &mut ranks)?;
+    let more = read_ranks(words, &mut ranks, &mut [false; 64])?;
     Some(Pool { loss, ranks, more })
 }
 

@@ -4,7 +4,7 @@
 ghost use Rattle.std.specs.Prelude.{◌≡◌, ◌==◌, true, false, ◌<◌, ◌≤◌, OnSome, length};
 ghost use Rattle.std.specs.List.{position};
 ghost use Rattle.std.specs.Option.{IfSome, is_some};
-ghost use Rattle.typed_ranks.specs.TypedRanks.{rank_of, unnamed, is_good, marked, given, all_good, ranks_in};
+ghost use Rattle.typed_ranks.specs.TypedRanks.{rank_of, is_good, marked, given, all_good, ranks_in};
 ghost use Rattle.typed_ranks.specs.Pools.{is_slash, to_slash, further_pools, pools_from};
 
 use cells::read_byte;
@@ -50,21 +50,21 @@ fn take_rank(word: &[u8], ranks: &mut [u8; 64], named: &mut [bool; 64]) -> Optio
     Some(())
 }
 
-/// Reads the ranks of a pool, up to the next `/` or the end. Answers whether a further pool follows, and None where a word gives no rank that can be used.
+/// Reads the ranks of a pool, up to the next `/` or the end. Answers whether a further pool follows, and None where a word gives no rank that can be used, as
+/// one for a member who is named already.
 // (A flag, since that a pool follows says nothing of the ranks; this one's are good either way.)
 #[tactic(auto, unfolding(lists::specs::Checks::check, crate::specs::Pools::pools_of))]
-pub fn read_ranks(words: &mut Words, ranks: &mut [u8; 64]) -> Option<bool>
-    ensures readable { is_some result ≡ all_good unnamed (to_slash words.old) }
+pub fn read_ranks(words: &mut Words, ranks: &mut [u8; 64], named: &mut [bool; 64]) -> Option<bool>
+    ensures readable { is_some result ≡ all_good named.old (to_slash words.old) }
     ensures ranks_after { OnSome result (ranks.new ≡ ranks_in ranks.old (to_slash words.old)) }
     ensures pools_behind { IfSome result (λ more. further_pools words.old ≡ pools_from more words.new) }
     ensures words_taken { length words.new ≤ length words.old }
 {
-    let mut named = [false; 64];
     while let Some(word) = words.next() {
         if word == b"/".as_slice() {
             return Some(true);
         }
-        take_rank(word, ranks, &mut named)?;
+        take_rank(word, ranks, named)?;
     }
     Some(false)
 }

@@ -15,13 +15,15 @@
 // that altered a slip or a register is told, and so is a refused opening that handed back a member or a tranche.
 #![tactic(auto)]
 
+ghost use Rattle.std.specs.Prelude.{◌≤◌, length};
+ghost use Rattle.cases.specs.Handed.{ranks_handed, slip_handed};
+
 use cases::{Called, Case, bytes, cut, read_case};
 use drill::{DrillCall, apply};
-use files::read_all;
 use lists::MISSING_RANK;
 use ranges::{Losses, range};
 use refusal::Refusal;
-use std::io::Print;
+use std::io::{Print, Read};
 use waterfall::Register;
 use waterfall::opening::open;
 
@@ -43,7 +45,9 @@ fn say(rt: &impl Print, label: &[u8], refusal: Option<Refusal>, kept: bool) {
     }
 }
 
-fn size(rt: &impl Print, case: Case<'_>, prevailing: u64, available: u64, lent: usize) {
+fn size(rt: &impl Print, case: Case<'_>, prevailing: u64, available: u64, lent: usize)
+    requires { lent ≤ 258 }
+{
     let (stress, shares) = cut(case.digits, b'|');
     let mut stress_room = [0; 320];
     let mut shares_room = [0; 320];
@@ -53,7 +57,7 @@ fn size(rt: &impl Print, case: Case<'_>, prevailing: u64, available: u64, lent: 
         bytes(&mut shares_room, shares),
         prevailing,
         available,
-        &mut slip[..lent.min(258)],
+        &mut slip[..lent],
     );
     say(rt, case.label, sized.err(), slip == LENT);
 }
@@ -75,9 +79,7 @@ fn opening(rt: &impl Print, case: Case<'_>, own: u64) -> Register {
 // The ranks of up to five pools, 64 bytes each; 255 where a pool's say nothing.
 fn ranks_of(digits: &[u8]) -> [u8; 320] {
     let mut ranks = [MISSING_RANK; 320];
-    for (pool, digits) in ranks.chunks_mut(64).zip(digits.split(|b| *b == b';')) {
-        bytes(pool, digits);
-    }
+    bytes(&mut ranks, digits);
     ranks
 }
 
@@ -89,15 +91,12 @@ fn drill(
     count: usize,
     lent: usize,
     register: Register,
-) -> Register {
+) -> Register
+    requires { (count ≤ 320) × (lent ≤ 258) }
+{
     let ranks = ranks_of(case.digits);
     let mut slip = LENT;
-    let outcome = apply(
-        register,
-        call,
-        &ranks[..count.min(320)],
-        &mut slip[..lent.min(258)],
-    );
+    let outcome = apply(register, call, &ranks[..count], &mut slip[..lent]);
     let kept = slip == LENT && outcome.register == register;
     say(rt, case.label, outcome.reply.err(), kept);
     if case.label.is_empty() {
@@ -116,20 +115,18 @@ fn ranged(
     count: usize,
     lent: usize,
     register: &Register,
-) {
+)
+    requires { (count ≤ 320) × (lent ≤ 258) }
+{
     let ranks = ranks_of(case.digits);
     let mut slip = LENT;
-    let answer = range(
-        register,
-        member,
-        losses,
-        &ranks[..count.min(320)],
-        &mut slip[..lent.min(258)],
-    );
+    let answer = range(register, member, losses, &ranks[..count], &mut slip[..lent]);
     say(rt, case.label, answer.err(), slip == LENT);
 }
 
-fn run(rt: &impl Print, case: Case<'_>, register: Register) -> Register {
+fn run(rt: &impl Print, case: Case<'_>, register: Register) -> Register
+    requires { (ranks_handed case.called ≤ 320) × (slip_handed case.called ≤ 258) }
+{
     match case.called {
         Called::Size {
             prevailing,
@@ -162,8 +159,22 @@ fn run_all(rt: &impl Print, cases: &[u8]) {
     }
 }
 
+// Reads the cases to their end, to a read that fails, or until the room is used up. Answers the part of the room that is filled, also where a read
+// failed. (`read_all` of `files` says nothing then of what it read.)
+fn read_cases<'a>(input: &mut impl Read, room: &'a mut [u8]) -> &'a [u8]
+    ensures { length result.now ≤ length room.old }
+{
+    let mut done = 0;
+    while done < room.len() {
+        match input.read(&mut room[done..]) {
+            Ok(0) | Err(_) => break,
+            Ok(n) => done += n,
+        }
+    }
+    &room[..done]
+}
+
 fn main(rt: HostRuntime) {
     let mut room = [0; 65536];
-    let cases = read_all(&mut rt.reader(), &mut room).unwrap_or(b"");
-    run_all(&rt, cases);
+    run_all(&rt, read_cases(&mut rt.reader(), &mut room));
 }

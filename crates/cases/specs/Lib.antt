@@ -1,0 +1,2 @@
+-- How much a case hands over.
+pub mod Handed

@@ -5,7 +5,7 @@
 pub mod fold;
 pub mod range;
 
-ghost use Rattle.std.specs.Prelude.{◌≡◌};
+ghost use Rattle.std.specs.Prelude.{◌≡◌, ◌∷◌, []};
 
 use crate::fold::fold;
 use admission::Pools;
@@ -111,7 +111,9 @@ pub enum Case {
     Pools,
 }
 
-fn one_pool(loss: u64) -> Pools {
+fn one_pool(loss: u64) -> Pools
+    ensures { result ≡ record { count = 1; losses = loss ∷ 0 ∷ 0 ∷ 0 ∷ [] } }
+{
     Pools {
         count: 1,
         losses: [loss, 0, 0, 0],

@@ -8,7 +8,8 @@ mod sizings;
 
 use bench_defaults::{Case, measured, range};
 use bench_splits::{Case as Split, Side, measured as measured_split};
-use files::{arg_count, argument, number_at};
+use files::{arg_count, argument};
+use numbers::read_number;
 use std::io::Eprint;
 use std::rt::{Env, Files};
 
@@ -35,7 +36,8 @@ fn checksum(rt: &(impl Env + Files + Eprint), case: &[u8], turns: u64) -> Option
 fn asked(rt: &(impl Env + Files + Eprint)) -> Option<u64> {
     let mut case = [0; 16];
     let case = argument(rt, 1, &mut case)?;
-    let turns = number_at(rt, 2)?;
+    let mut word = [0; 32];
+    let turns = read_number(argument(rt, 2, &mut word)?)?;
     checksum(rt, case, turns)
 }
 

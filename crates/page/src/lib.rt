@@ -12,8 +12,8 @@ use lists::PRINTED_LIMIT;
 use refusal::Refusal;
 use waterfall::Allocation;
 
-// A row of 40 bytes, and byte 10 behind it.
-const LINE_LENGTH: usize = 41;
+/// A row of 40 bytes, and byte 10 behind it.
+pub const LINE_LENGTH: usize = 41;
 
 pub const PAGE_LENGTH: usize = 8 * LINE_LENGTH;
 
@@ -67,8 +67,8 @@ fn heading() -> [u8; LINE_LENGTH]
     row
 }
 
-// The page's lines.
-fn lines(a: Allocation) -> [[u8; LINE_LENGTH]; 8]
+/// The page's lines, for who puts them elsewhere than into the front of a lent page.
+pub fn lines(a: Allocation) -> [[u8; LINE_LENGTH]; 8]
     requires { Within a }
     ensures { flat_map (λ line. line) result ≡ page_of a }
 {

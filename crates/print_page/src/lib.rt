@@ -6,7 +6,7 @@ ghost use Rattle.page.specs.Page.{page_length, page_of};
 ghost use Rattle.print_page.specs.Texts.{latest_of, page_text};
 ghost use Rattle.print_page.specs.Parts.{Printable};
 
-use page::{PAGE_LENGTH, print};
+use page::lines;
 use text::Text;
 use waterfall::{Allocation, Reply};
 
@@ -22,10 +22,7 @@ fn put_allocation<const N: usize>(out: &mut Text<N>, allocation: Allocation)
     ensures bytes { out.new ≡ out.old ++ page_of allocation }
     ensures len { length out.new ≡ length out.old + page_length }
 {
-    let mut page = [0; PAGE_LENGTH];
-    // It is not refused, since its amounts are within what a page prints.
-    let _ = print(allocation, &mut page);
-    out.put(&page);
+    out.put(lines(allocation).as_flattened());
 }
 
 /// Puts the page of the latest default.

@@ -13,7 +13,7 @@ abbrev pub member_before : Option Before → List ℕ → ℕ
 member_before None s = 0
 member_before (Some before) s = cond (same_block (Some before) s) before.member 0
 
--- "Day, scenario, member strictly rise as a triple."
+-- day, scenario and member rise strictly, as a triple
 abbrev pub Rises : Before → Before → Type 0
 Rises before next =
     (before.day < next.day)

@@ -37,18 +37,18 @@ fn take(
     Some(())
 }
 
-// The sheet of the lines, where all are read. Turns are counted, since a loop has to be shown to end: no input has so many lines and reads. (run_drill has
-// a loop like it, and writes before each read; one function for both would be handed what is done with a line and what before a read.)
-fn read_lines(rt: &(impl Input + Eprint), kind: Kind) -> Option<Text<STRESS_ROOM>> {
-    let mut sheet = Text::new();
+// Puts the records of the lines into a sheet. None where not all are read. Turns are counted, since a loop has to be shown to end: no input has so many lines
+// and reads. (run_drill has a loop like it, and writes before each read; one function for both would be handed what is done with a line and what before a
+// read.)
+fn read_lines(rt: &(impl Input + Eprint), kind: Kind, sheet: &mut Text<STRESS_ROOM>) -> Option<()> {
     let mut lines = Lines::new();
     for _turn in 0..u64::MAX {
         let number = lines.number();
         match lines.next() {
-            Some(line) => take(rt, kind, number, line, &mut sheet)?,
+            Some(line) => take(rt, kind, number, line, sheet)?,
             None => {
                 if lines.state() == State::Ended {
-                    return Some(sheet);
+                    return Some(());
                 }
                 lines.read_on(rt);
                 if lines.state() == State::Failed {
@@ -61,10 +61,10 @@ fn read_lines(rt: &(impl Input + Eprint), kind: Kind) -> Option<Text<STRESS_ROOM
 }
 
 fn make(rt: &(impl Input + Print + Eprint), kind: Kind) {
-    let Some(sheet) = read_lines(rt, kind) else {
-        return;
-    };
-    output::tell(rt, rt.write_all(sheet.as_bytes()));
+    let mut sheet = Text::new();
+    if read_lines(rt, kind, &mut sheet).is_some() {
+        output::tell(rt, rt.write_all(sheet.as_bytes()));
+    }
 }
 
 // The kind of sheet that the only argument names.

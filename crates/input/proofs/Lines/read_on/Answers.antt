@@ -8,8 +8,8 @@ invariant_of-self g c = (
   omega arith,
   omega arith,
   stays_searched c.self.inside.bytes c.keep-kept.new.bytes c.read_behind.new.bytes c.self.inside.from c.self.inside.have c.keep-kept.result
-      c.keep-kept.result c.self.inside.searched c.min-self-inside.result (omega arith) c.keep-kept.ensures.count c.keep-kept.ensures.front
-      c.read_behind.ensures.front (omega arith) c.self.invariant.2 c.min-self-inside.ensures,
+      c.keep-kept.result c.self.inside.searched _ (omega arith) c.keep-kept.ensures.count c.keep-kept.ensures.front
+      c.read_behind.ensures.front (omega arith) c.self.invariant.2 (omega arith),
 )
 
 pub invariant_of-self-in-Ok : goal.invariant_of-self-in-Ok
@@ -17,8 +17,8 @@ invariant_of-self-in-Ok g c = (
   omega arith,
   omega (arith, c.in-Ok.ensures.within),
   stays_searched c.self.inside.bytes c.keep-kept.new.bytes c.read_behind.new.bytes c.self.inside.from c.self.inside.have c.keep-kept.result
-      (c.keep-kept.result + c.in-Ok.n) c.self.inside.searched c.min-self-inside.result (omega arith) c.keep-kept.ensures.count c.keep-kept.ensures.front
-      c.read_behind.ensures.front (omega arith) c.self.invariant.2 c.min-self-inside.ensures,
+      (c.keep-kept.result + c.in-Ok.n) c.self.inside.searched _ (omega arith) c.keep-kept.ensures.count c.keep-kept.ensures.front
+      c.read_behind.ensures.front (omega arith) c.self.invariant.2 (omega arith),
 )
 
 pub invariant_of-self-in-Err : goal.invariant_of-self-in-Err
@@ -26,6 +26,6 @@ invariant_of-self-in-Err g c = (
   omega arith,
   omega arith,
   stays_searched c.self.inside.bytes c.keep-kept.new.bytes c.read_behind.new.bytes c.self.inside.from c.self.inside.have c.keep-kept.result
-      c.keep-kept.result c.self.inside.searched c.min-self-inside.result (omega arith) c.keep-kept.ensures.count c.keep-kept.ensures.front
-      c.read_behind.ensures.front (omega arith) c.self.invariant.2 c.min-self-inside.ensures,
+      c.keep-kept.result c.self.inside.searched _ (omega arith) c.keep-kept.ensures.count c.keep-kept.ensures.front
+      c.read_behind.ensures.front (omega arith) c.self.invariant.2 (omega arith),
 )

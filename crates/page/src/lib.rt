@@ -1,10 +1,11 @@
 // A default's answer as a page for the wall: document 02, request 1.
 #![tactic(auto)]
 
-ghost use Rattle.std.specs.Prelude.{◌≡◌, ◌≤◌, ◌++◌, length, drop, flat_map};
+ghost use Rattle.std.specs.Prelude.{◌≡◌, ◌-◌, ◌≤◌, ◌++◌, length, take, drop, flat_map};
 ghost use Rattle.lists.specs.Limits.{printed_limit};
+ghost use Rattle.indian_digits.specs.IndianDigits.{indian_of};
 ghost use Rattle.refusal.specs.Refusal.{answered};
-ghost use Rattle.page.specs.Page.{amounts_of, any_above, heading, line, row_of, page_length, page_of, page_refusal, page_left};
+ghost use Rattle.page.specs.Page.{amounts_of, any_above, page_length, page_of, page_refusal, page_left};
 ghost use Rattle.page.specs.Parts.{Within};
 
 use indian_digits::put_amount;
@@ -44,27 +45,24 @@ fn printable(a: Allocation, size: usize) -> Result<(), Refusal>
     Ok(())
 }
 
-// A layer's line: its name at the left, its amount at the right. Inlined, since the names are constants.
-#[inline(always)]
-fn row(name: &[u8], amount: u64) -> [u8; LINE_LENGTH]
-    requires { (length name.now ≤ 20) × (amount ≤ printed_limit) }
-    ensures { result ≡ line (row_of name.now amount) }
-{
-    let mut row = [b' '; LINE_LENGTH];
-    row[..name.len()].copy_from_slice(name);
-    put_amount(&mut row[..40], amount);
-    row[40] = b'\n';
-    row
-}
+// The page with spaces where its amounts go.
+const LINES: [[u8; LINE_LENGTH]; 8] = [
+    *b"LAYER                        Rs THOUSAND\n",
+    *b"MARGIN                                  \n",
+    *b"OWN FUND                                \n",
+    *b"TRANCHE 1                               \n",
+    *b"MEMBERS                                 \n",
+    *b"TRANCHE 2                               \n",
+    *b"CALLS                                   \n",
+    *b"SHORT                                   \n",
+];
 
-// The first line: a fixed text of 40 bytes.
-#[tactic(auto, unfolding(crate::specs::Page::heading, crate::specs::Page::line))]
-fn heading() -> [u8; LINE_LENGTH]
-    ensures { result ≡ line heading }
+// A layer's amount at the right of its line.
+fn put_in_line(row: &mut [u8; LINE_LENGTH], amount: u64)
+    requires { amount ≤ printed_limit }
+    ensures { row.new ≡ take (40 - length (indian_of amount)) row.old ++ indian_of amount ++ drop 40 row.old }
 {
-    let mut row = [b'\n'; LINE_LENGTH];
-    row[..40].copy_from_slice(b"LAYER                        Rs THOUSAND");
-    row
+    put_amount(&mut row[..40], amount);
 }
 
 /// The page's lines, for who puts them elsewhere than into the front of a lent page.
@@ -72,16 +70,15 @@ pub fn lines(a: Allocation) -> [[u8; LINE_LENGTH]; 8]
     requires { Within a }
     ensures { flat_map (λ line. line) result ≡ page_of a }
 {
-    [
-        heading(),
-        row(b"MARGIN", a.margin),
-        row(b"OWN FUND", a.contribution),
-        row(b"TRANCHE 1", a.tranche1),
-        row(b"MEMBERS", a.members),
-        row(b"TRANCHE 2", a.tranche2),
-        row(b"CALLS", a.calls),
-        row(b"SHORT", a.short),
-    ]
+    let mut lines = LINES;
+    put_in_line(&mut lines[1], a.margin);
+    put_in_line(&mut lines[2], a.contribution);
+    put_in_line(&mut lines[3], a.tranche1);
+    put_in_line(&mut lines[4], a.members);
+    put_in_line(&mut lines[5], a.tranche2);
+    put_in_line(&mut lines[6], a.calls);
+    put_in_line(&mut lines[7], a.short);
+    lines
 }
 
 // The page in front of what a lent one holds behind it.

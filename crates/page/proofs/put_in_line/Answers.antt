@@ -1,0 +1,14 @@
+use Rattle.std.proofs.Common.{◌≡◌, ◌-◌, arith, length, take, length-take}
+use Rattle.std.proofs.lemmas.List.{take-take}
+use Rattle.indian_digits.specs.IndianDigits.{indian_of}
+use Rattle.indian_digits.proofs.Theorems.{amount_fits}
+use Rattle.page.proofs.put_in_line.Goals as goal
+
+pub put_amount-requires : goal.put_amount-requires
+put_amount-requires c =
+    omega (arith, amount_fits c.args.amount c.requires, length-take 40 c.args.row.now)
+
+pub returns : goal.returns
+returns c =
+    let n : length (take 40 c.args.row.now) ≡ 40 = omega (arith, length-take 40 c.args.row.now) in
+    rw (c.put_amount.ensures.put, n, take-take (40 - length (indian_of c.args.amount)) 40 c.args.row.now (omega arith))

@@ -163,7 +163,7 @@ fn digit(byte: &u8) -> Option<u8>
 }
 
 /// The bytes that pairs of hexadecimal digits say, in the front of the room. A semicolon goes on to the next 64 bytes, and the room keeps what it held
-/// where bytes are left out. A digit alone is put into the room too, as the lower half of what stood there: at the end no byte of the answer is made of it.
+/// where bytes are left out. A digit alone is put into the room too, behind the lower half of what stood there: at the end no byte of the answer is made of it.
 pub fn bytes<'a>(room: &'a mut [u8], digits: &[u8]) -> &'a [u8]
     ensures { length result.now ≤ length room.old }
 {

@@ -45,7 +45,7 @@ fn printable(a: Allocation, size: usize) -> Result<(), Refusal>
     Ok(())
 }
 
-// The page with spaces where its amounts go.
+// The page's lines with spaces where the amounts go.
 const LINES: [[u8; LINE_LENGTH]; 8] = [
     *b"LAYER                        Rs THOUSAND\n",
     *b"MARGIN                                  \n",
@@ -57,7 +57,8 @@ const LINES: [[u8; LINE_LENGTH]; 8] = [
     *b"SHORT                                   \n",
 ];
 
-// A layer's amount at the right of its line.
+// Puts an amount at the right of its layer's line.
+#[tactic(auto, using(indian_digits::proofs::Theorems::amount_fits))]
 fn put_in_line(row: &mut [u8; LINE_LENGTH], amount: u64)
     requires { amount ≤ printed_limit }
     ensures { row.new ≡ take (40 - length (indian_of amount)) row.old ++ indian_of amount ++ drop 40 row.old }
@@ -70,6 +71,7 @@ pub fn lines(a: Allocation) -> [[u8; LINE_LENGTH]; 8]
     requires { Within a }
     ensures { flat_map (λ line. line) result ≡ page_of a }
 {
+    // The amounts are put in place: to move a line whose bytes have just been put one by one, the processor waits for them.
     let mut lines = LINES;
     put_in_line(&mut lines[1], a.margin);
     put_in_line(&mut lines[2], a.contribution);

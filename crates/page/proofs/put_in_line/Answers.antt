@@ -1,12 +1,7 @@
 use Rattle.std.proofs.Common.{◌≡◌, ◌-◌, arith, length, take, length-take}
 use Rattle.std.proofs.lemmas.List.{take-take}
 use Rattle.indian_digits.specs.IndianDigits.{indian_of}
-use Rattle.indian_digits.proofs.Theorems.{amount_fits}
 use Rattle.page.proofs.put_in_line.Goals as goal
-
-pub put_amount-requires : goal.put_amount-requires
-put_amount-requires c =
-    omega (arith, amount_fits c.args.amount c.requires, length-take 40 c.args.row.now)
 
 pub returns : goal.returns
 returns c =

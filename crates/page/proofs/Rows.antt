@@ -6,7 +6,7 @@ use mathlib.Core.List.{List, [], ◌∷◌, ◌++◌, append_assoc}
 use native.Mathlib.Omega.{arith}
 use borrow.Author.Tests.{ltb-false, le-ltb}
 use lib.Dec.{ltb}
-use lib.ListN.{length, drop, length-append}
+use lib.ListN.{length, drop, set, length-append}
 use Rattle.lists.specs.Limits.{printed_limit}
 use Rattle.lists.specs.Checks.{check}
 use Rattle.lists.specs.Texts.{ascii}
@@ -14,7 +14,7 @@ use Rattle.lists.proofs.Checks.{check_past}
 use Rattle.layers.specs.declared.Allocation.{Allocation}
 use Rattle.std.proofs.Math.ListN.{drop_of_length-le}
 use Rattle.std.proofs.Common.{append-nil, take, ap, take_at, drop_at}
-use Rattle.std.proofs.lemmas.List.{length-replicate, replicate-append-replicate}
+use Rattle.std.proofs.lemmas.List.{set_at, replicate_more, length-replicate, drop-replicate, replicate-append-replicate}
 use Rattle.indian_digits.specs.IndianDigits.{indian_of}
 use Rattle.indian_digits.proofs.Theorems.{amount_fits}
 use Rattle.std.proofs.Common.{Option, Some, None, is_some, Result, Ok, Err}
@@ -32,7 +32,7 @@ pub right-length : (text : List ℕ) → length text ≤ 20 → length (right_al
 right-length text h =
     omega (arith, length-append (spaces (20 - length text)) text, length-replicate {A = ℕ} (20 - length text) 32)
 
-left-length : (text : List ℕ) → length text ≤ 20 → length (left_aligned text) ≡ 20
+pub left-length : (text : List ℕ) → length text ≤ 20 → length (left_aligned text) ≡ 20
 left-length text h =
     omega (arith, length-append text (spaces (20 - length text)), length-replicate {A = ℕ} (20 - length text) 32)
 
@@ -102,44 +102,59 @@ left_whole a page w e =
     let behind : drop page_length page ≡ [] = drop_of_length-le page {i = page_length} (omega arith) in
     left_printed a page (printable a (length page) w (omega arith)) ∙ rw behind (append-nil (page_of a))
 
--- a line whose right half is blank
-abbrev pub blank_line : List ℕ → List ℕ
-blank_line name = left_aligned name ++ spaces 20 ++ 10 ∷ []
-
--- an amount that is put over the last of its spaces
+-- a row as it is put: the name in front of spaces, the amount over the last of them, and then the newline
 module _ (name amount : List ℕ) (h : length name ≤ 20) (k : length amount ≤ 20) where
+  gap : ℕ
+  gap = (20 - length name) + (20 - length amount)
+
   front : List ℕ
-  front = left_aligned name ++ spaces (20 - length amount)
+  front = name ++ spaces gap
+
+  blank : name ++ drop (length name) (spaces 41) ≡ front ++ spaces (length amount + 1)
+  unfolding front gap
+  blank =
+      let e : 41 - length name ≡ (20 - length name) + (20 - length amount) + (length amount + 1) = omega arith in
+      rw (drop-replicate {X = ℕ} (length name) 41 32, e, ← replicate-append-replicate {A = ℕ} gap (length amount + 1) 32) (sym (append_assoc name (spaces gap) _))
 
   front-length : length front ≡ 40 - length amount
-  unfolding front
-  front-length =
-      omega (arith, length-append (left_aligned name) (spaces (20 - length amount)), left-length name h, length-replicate {A = ℕ} (20 - length amount) 32)
+  unfolding front gap
+  front-length = omega (arith, length-append name (spaces gap), length-replicate {A = ℕ} gap 32)
 
-  half : spaces 20 ≡ spaces (20 - length amount) ++ spaces (length amount)
-  half =
-      let e : 20 ≡ (20 - length amount) + length amount = omega arith in
-      ap spaces e ∙ sym (replicate-append-replicate {A = ℕ} (20 - length amount) (length amount) 32)
+  -- the row before the amount is put, and the column in which it goes
+  abbrev named : List ℕ
+  named = name ++ drop (length name) (spaces 41)
 
-  parts : blank_line name ≡ front ++ (spaces (length amount) ++ 10 ∷ [])
-  unfolding front
-  parts = ap (λ (s : List ℕ). left_aligned name ++ s ++ 10 ∷ []) half ∙ simp append_assoc
+  abbrev column : List ℕ
+  column = take 40 named
 
-  before : take (40 - length amount) (blank_line name) ≡ front
-  before = ap (take (40 - length amount)) parts ∙ take_at front (spaces (length amount) ++ 10 ∷ []) (40 - length amount) front-length
+  parts : named ≡ (front ++ spaces (length amount)) ++ 32 ∷ []
+  parts =
+      blank
+      ∙ ap (λ (s : List ℕ). front ++ s) (sym (replicate_more {X = ℕ} (length amount) 32))
+      ∙ sym (append_assoc front (spaces (length amount)) (32 ∷ []))
 
-  behind : drop 40 (blank_line name) ≡ 10 ∷ []
-  behind =
-      drop_at (left_aligned name ++ spaces 20) (10 ∷ []) 40 (omega (arith, length-append (left_aligned name) (spaces 20), left-length name h, length-replicate {A = ℕ} 20 32))
+  parts-length : length (front ++ spaces (length amount)) ≡ 40
+  parts-length = omega (arith, length-append front (spaces (length amount)), front-length, length-replicate {A = ℕ} (length amount) 32)
 
-  amount_put : take (40 - length amount) (blank_line name) ++ amount ++ drop 40 (blank_line name) ≡ line (left_aligned name ++ right_aligned amount)
-  unfolding line front
-  amount_put = rw (before, behind) (simp append_assoc)
+  column_is : column ≡ front ++ spaces (length amount)
+  column_is = ap (take 40) parts ∙ take_at (front ++ spaces (length amount)) (32 ∷ []) 40 parts-length
 
-pub row_put : (name : List ℕ) (n : ℕ) {new : List ℕ} → length name ≤ 20 → n ≤ printed_limit
-    → new ≡ take (40 - length (indian_of n)) (blank_line name) ++ indian_of n ++ drop 40 (blank_line name) → new ≡ line (row_of name n)
-unfolding row_of
-row_put name n h k e = e ∙ amount_put name (indian_of n) h (amount_fits n k)
+  pub column-length : 40 ≡ length column
+  column-length = sym (ap length column_is ∙ parts-length)
+
+  aligned : front ++ amount ≡ left_aligned name ++ right_aligned amount
+  unfolding front gap
+  aligned =
+      rw (← replicate-append-replicate {A = ℕ} (20 - length name) (20 - length amount) 32) (simp append_assoc)
+
+  pub row_put : (out : List ℕ) → out ≡ take (length column - length amount) column ++ amount → set (out ++ drop 40 named) 40 10 ≡ line (left_aligned name ++ right_aligned amount)
+  unfolding line
+  row_put out e =
+      let behind : drop 40 named ≡ 32 ∷ [] = ap (drop 40) parts ∙ drop_at (front ++ spaces (length amount)) (32 ∷ []) 40 parts-length in
+      let f : length column - length amount ≡ 40 - length amount = omega (arith, column-length) in
+      let before : take (length column - length amount) column ≡ front =
+      rw (f, column_is) (take_at front (spaces (length amount)) (40 - length amount) front-length) in
+      rw (e, behind, before, ← aligned) (set_at (front ++ amount) 32 [] 10 40 (omega (arith, length-append front amount, front-length)))
 
 -- what the test of a page answered
 accepted : {A : Type 0} {b : A} {o : Result A Refusal} (r : Option Refusal) (a : A) → o ≡ answered r a → o ≡ Ok b → r ≡ None

@@ -5,5 +5,5 @@ use Rattle.page.proofs.put_in_line.Goals as goal
 
 pub returns : goal.returns
 returns c =
-    let n : length (take 40 c.args.row.now) ≡ 40 = omega (arith, length-take 40 c.args.row.now) in
-    rw (c.put_amount.ensures.put, n, take-take (40 - length (indian_of c.args.amount)) 40 c.args.row.now (omega arith))
+    let n : length (take 40 c.args.blank.now) ≡ 40 = omega (arith, length-take 40 c.args.blank.now) in
+    rw (c.put_amount.ensures.put, n, take-take (40 - length (indian_of c.args.amount)) 40 c.args.blank.now (omega arith))

@@ -4,4 +4,4 @@ use Rattle.page.proofs.put_page.Goals as goal
 
 pub copy_from_slice-requires : goal.copy_from_slice-requires
 copy_from_slice-requires c =
-    omega (arith, length-take 328 c.args.page.now, ap length (c.as_flattened.ensures.value ∙ c.lines.ensures), page-length c.args.a c.requires.1)
+    omega (arith, length-take 328 c.args.page.now, ap length (c.as_flattened.ensures.value ∙ c.page_rows.ensures), page-length c.args.a c.requires.1)
